@@ -80,6 +80,10 @@ export function lifeCells(life: Replay, word: string): Child[] {
     ];
 }
 
+function speedOf(speed: number, limit: number): string {
+    return `${Number.isNaN(speed) ? SAY.unknown : kmh(speed)} of ${kmh(limit)} km/h`;
+}
+
 /** The cells of an intervention; its causes come later. */
 export function interventionTexts(
     records: Records, one: Intervention, speed: number, trips: number[], causes: Map<number, Why|string>): Child[] {
@@ -91,7 +95,7 @@ export function interventionTexts(
     const isWorst = one.steps.some(({ brake }) => brake === 2);
     return [
         `${count(records.event(one.first))} to ${count(records.event(one.last))}`, metres(records.front(one.first)),
-        seconds(records.moment(one.first)), `${kmh(speed)} of ${kmh(records.limit(one.first))} km/h`,
+        seconds(records.moment(one.first)), speedOf(speed, records.limit(one.first)),
         make("strong", { class: isWorst ? "bad" : "" }, one.steps.map(({ brake }) => brakeText(brake)).join(", then ")),
         make("ul", {}, ...says.map(text => make("li", {}, text)))
     ];

@@ -1,64 +1,51 @@
-// Asking an image: what is dropped goes to the worker, and what that reports is shown.
+// Asking images: what is dropped goes to the worker, and what that reports is shown: all images on one axis, and all
+// about one of them.
 import {imageTexts, lostTexts, replayText, slotText} from "./answers";
-import {Braking} from "./braking";
-import {bytesOfMarks, misfit, sorted, whenChosen} from "./choosing";
-import {briefRows, counted} from "./brief";
-import {Day, MarksFile, utcText} from "./day";
-import {Calls, Records, END, OK} from "./calls";
+import {briefRows} from "./brief";
+import {Calls, END} from "./calls";
+import {bytesOfMarks, Chosen, isNextTo, misfit, MOST_BYTES, sorted, whenChosen} from "./choosing";
+import {Day, utcText} from "./day";
 import {at, make, say, show} from "./dom";
 import {EventView} from "./eventview";
 import {Findings, offerToSave} from "./evidence";
-import {Block, Facts, Replay, Slot, Why} from "./layouts";
+import {areStrangers, identityIn, identityText} from "./identity";
+import {AskedImage, Given, strangersText} from "./image";
+import {ImageList} from "./imagelist";
 import {Lists} from "./lists";
-import {Intervention, lastOf, LifeRange} from "./lives";
-import {Head, Order, RecordsReport, Report, SlotsReport, Unwritten} from "./messages";
+import {lastOf} from "./lives";
+import {Order, Report} from "./messages";
 import {Notes} from "./notes";
 import {drawRing, legendOf} from "./ring";
 import {count, keptTexts} from "./shown";
 import {BySlots, imageSize} from "./slots";
 import {choose} from "./tabs";
 import {DAY, SAY, STATUSES} from "./texts";
-import {Utc} from "./times";
-import {verdictOf} from "./verdict";
 import {Viewer} from "./viewer";
 import {VIEW} from "./wording";
 
-const LINK_MS = 100;
+const LINK_MS = 100, MOST_IMAGES = 6;
 
 export class Ask {
+    /** The number of the last image, or refusal. */
     id = 0;
-    private name = "";
-    private bytes = new Uint8Array();
-    private facts: Facts|null = null;
-    private records: Records|null = null;
-    private lives: LifeRange[] = [];
-    private speeds = new Float64Array();
-    private interventions: Intervention[] = [];
-    private trips: number[] = [];
-    private braking: Braking[] = [];
-    private unwritten: Unwritten|null = null;
-    private slots: Slot[] = [];
-    private heads = new Map<number, Head>();
-    private newest: Block|null = null;
-    private unreadable: number[] = [];
-    private journalStatus = OK;
-    private causes = new Map<number, Why|null>();
-    private replays: Replay[]|null = null;
-    private digest = "";
-    index = 0;
-    /** Whether everything about the image is shown. */
-    isDone = false;
-    private isWhole: boolean|null = null;
+    images: AskedImage[] = [];
+    /** The image that is shown. */
+    image: AskedImage|null = null;
     private linking = 0;
     /** The link that this page wrote itself, for the image before. */
     private ownLink = "";
-    private readonly day = new Day(() => this.showDay());
+    /** What waits until it is said that a stranger is wanted. */
+    private waiting: Given[] = [];
+    private readonly day = new Day(() => this.reckon());
     private readonly event: EventView;
     private readonly lists = new Lists(this.day, event => this.chooseEvent(event));
     private readonly notes: Notes = new Notes(() => this.viewer.draw(), event => this.chooseEvent(event));
-    readonly viewer: Viewer = new Viewer(n => this.choose(n), () => this.noted);
-    private readonly bySlots = new BySlots((file, slots) => this.ask(this.name, file, null, slots));
-    private slotsGiven: number|null = null;
+    readonly viewer: Viewer = new Viewer((image, n) => {
+        this.showImage(image);
+        this.choose(n);
+    }, image => this.notedOf(image));
+    private readonly list = new ImageList(image => this.showImage(image), image => this.remove(image));
+    private readonly bySlots = new BySlots((given, slots) => this.again(given, slots));
 
     constructor(private readonly worker: { postMessage(order: Order, transfer?: Transferable[]): void }, calls: Calls) {
         this.event = new EventView(worker, calls, this.day);
@@ -66,256 +53,308 @@ export class Ask {
         at("scrub").addEventListener("input", () => this.choose(Number(at<HTMLInputElement>("scrub").value)));
         at("event-number")
             .addEventListener("change", () => this.chooseEvent(Number(at<HTMLInputElement>("event-number").value)));
-        const move: [string, () => number | null][] = [
-            ["first", () => this.viewer.next(-1, 1)], ["before", () => this.viewer.next(this.index, -1)],
-            ["after", () => this.viewer.next(this.index, 1)],
-            ["last", () => this.viewer.next(this.records?.count ?? 0, -1)]
+        const move: [string, (image: AskedImage) => number | null][] = [
+            ["first", image => this.viewer.next(image, -1, 1)],
+            ["before", image => this.viewer.next(image, image.index, -1)],
+            ["after", image => this.viewer.next(image, image.index, 1)],
+            ["last", image => this.viewer.next(image, image.records?.count ?? 0, -1)]
         ];
         for (const [id, to] of move)
             at(id).addEventListener("click", () => {
-                const index = to();
+                const index = this.image && to(this.image);
                 say("filter-said", index === null ? VIEW.noMatch : "");
                 if (index !== null) this.choose(index);
             });
         at("print").addEventListener("click", () => print());
+        at("strangers-on").addEventListener("click", () => this.answer(true));
+        at("strangers-out").addEventListener("click", () => this.answer(false));
         offerToSave(() => this.evidence());
         addEventListener("hashchange", () => this.followHash());
     }
 
     /** What can be saved; null before everything is shown. */
     private evidence(): Findings|null {
-        const { records, isDone, day, name, digest, isWhole, unreadable, replays, interventions, trips, speeds } = this;
-        const { braking, verdict, viewer: { seen }, notes: { all: notes } } = this;
-        if (!records || !isDone) return null;
-        const utc = (n: number): Utc|null => day.of(records.life(n), records.moment(n)), bytes = this.bytes.length,
-              causes = counted(records, replays, this.causes), slots = this.facts?.slots ?? 0, sha256 = digest;
-        return {
-            name,
-            bytes,
-            sha256,
-            slots,
-            isWhole,
-            unreadable,
-            replays,
-            interventions,
-            trips,
-            records,
-            speeds,
-            causes,
-            utc,
-            braking,
-            verdict,
-            seen,
-            notes
-        };
+        const { image } = this;
+        if (!image?.records || !image.isDone) return null;
+        const notes: Findings["notes"] = ({ digest }) => this.notes.of(digest);
+        return { image, records: image.records, seen: this.viewer.seen, notes };
     }
 
+    // ---- what is handed over
+
+    /** Says why something isn't used; what is shown stays. */
     private refuse(sentence: string): void {
         this.id++;
-        this.facts = null;
-        at("answers").hidden = true;
+        at("answers").hidden = !this.image?.facts;
         say("ask-progress", "");
-        say("ask-error", sentence);
+        say("ask-error", [at("ask-error").textContent, sentence].filter(text => text).join(" "));
     }
 
-    /** Takes an image, or marks of the time of day, or both. */
+    /** Takes images, marks of the time of day, and identities. */
     async take(files: File[]): Promise<void> {
         choose("ask");
-        const chosen = await sorted(files), { image, marks } = chosen ?? {};
-        if (!chosen) this.refuse(SAY.oneFile);
-        else if (marks && !image && !this.facts) this.refuse(SAY.noImageYet);
-        else if (image && misfit(image)) this.refuse(misfit(image));
-        else {
-            const read = marks ? { name: marks.name, bytes: await bytesOfMarks(marks) } : null;
-            if (image) this.ask(image.name, image, read);
-            else if (read) this.day.take(read);
+        const { chosen, alone } = await sorted(files);
+        say("ask-error", "");
+        for (const one of chosen) await this.takeImage(one);
+        for (const [kind, file] of alone) {
+            const named = this.images.find(({ name }) => isNextTo(kind, file, name));
+            const image = named ?? (alone.length === 1 && !chosen.length ? this.image : undefined);
+            if (!image) this.refuse(this.images.length ? SAY.whose(file.name) : SAY.noImageYet);
+            else if (kind === "marks") {
+                image.marks = { name: file.name, bytes: await bytesOfMarks(file) };
+                image.reckon(this.day.drift);
+                this.showDay(image);
+            } else await this.takeIdentity(image, file);
         }
     }
 
-    /** Asks an image. */
-    ask(name: string, file: Blob, marks: MarksFile|null = null, slots: number|null = null): void {
-        this.id++;
-        this.bySlots.forget(file);
-        this.slotsGiven = slots;
-        this.name = name;
-        this.bytes = new Uint8Array();
-        this.day.begin(marks);
-        this.records = this.replays = this.newest = this.facts = this.unwritten = this.isWhole = null;
-        this.causes.clear();
-        this.event.forget();
-        this.heads.clear();
-        this.slots = [];
-        this.index = 0;
-        this.isDone = false;
-        clearTimeout(this.linking);
-        if (location.hash === this.ownLink) this.link("");
-        this.viewer.forget();
-        say("ask-error", "");
-        say("ask-progress", SAY.reading);
-        for (const part
-                 of ["brief", "braking", "lives", "interventions", "hex", "fields", "kept", "ring", "ring-legend"])
-            show(part);
-        for (const part of ["replay-said", "slot-said", "verdict"]) say(part, "");
-        this.worker.postMessage({ kind: "image", id: this.id, file, slots });
+    private async takeImage({ image: file, marks, identity }: Chosen): Promise<void> {
+        const bytes = this.images.reduce((sum, { given }) => sum + given.file.size, file.size), { name } = file;
+        if (misfit(file)) this.refuse(misfit(file));
+        else if (this.images.length >= MOST_IMAGES) this.refuse(SAY.tooMany(name, MOST_IMAGES));
+        else if (bytes > MOST_BYTES) this.refuse(SAY.tooMuch(name));
+        else {
+            const read = marks && { name: marks.name, bytes: await bytesOfMarks(marks) };
+            const whose = identity && await identityIn(identity);
+            if (typeof whose === "string" && identity) this.refuse(SAY.noIdentity(identity.name, whose));
+            this.offer({ name, file, marks: read, identity: typeof whose === "string" ? null : whose, slots: null });
+        }
     }
+
+    private async takeIdentity(image: AskedImage, file: File): Promise<void> {
+        const whose = await identityIn(file);
+        if (typeof whose === "string") return this.refuse(SAY.noIdentity(file.name, whose));
+        image.identity = whose;
+        const other = this.images.find(one => one !== image && areStrangers(whose, one.identity));
+        if (other) this.refuse(strangersText(image.given, whose, other));
+        this.showFacts();
+    }
+
+    /** Adds an image, unless it is of another unit or vehicle: then it is asked. */
+    private offer(given: Given): void {
+        const other = this.images.find(({ identity }) => areStrangers(given.identity, identity));
+        if (!other) return this.add(given);
+        this.waiting.push(given);
+        const said = at("strangers-said").textContent ?? "";
+        say("strangers-said", [said, strangersText(given, given.identity, other)].filter(text => text).join(" "));
+        at("strangers").hidden = false;
+    }
+
+    private answer(isWanted: boolean): void {
+        const { waiting } = this;
+        this.waiting = [];
+        at("strangers").hidden = true;
+        say("strangers-said", "");
+        for (const one of isWanted ? waiting : []) this.add(one);
+    }
+
+    /** Asks an image instead of all others. */
+    ask(name: string, file: Blob): void {
+        for (const image of [...this.images]) this.remove(image);
+        say("ask-error", "");
+        this.add({ name, file, marks: null, identity: null, slots: null });
+    }
+
+    /** Reads an image again, with a number of slots that was entered. */
+    private again(given: Given, slots: number): void {
+        for (const image of this.images.filter(({ given: { file } }) => file === given.file)) this.remove(image);
+        say("ask-error", "");
+        this.add({...given, slots });
+    }
+
+    private add(given: Given): void {
+        this.bySlots.forget();
+        const place = [...Array(MOST_IMAGES).keys()].find(n => this.images.every(one => one.place !== n)) ?? 0;
+        const image = new AskedImage(++this.id, place, given);
+        this.images.push(image);
+        // (what is shown stays until the records of the new image are there)
+        if (this.image) this.list.show(this.images, this.image);
+        else this.showImage(image);
+        say("ask-progress", SAY.reading);
+        this.worker.postMessage({ kind: "image", id: image.id, file: given.file, slots: given.slots });
+    }
+
+    /** Removes an image; what isn't read of it yet stays unread. */
+    remove(image: AskedImage): void {
+        this.worker.postMessage({ kind: "drop", id: image.id });
+        this.images = this.images.filter(one => one !== image);
+        if (this.image === image) this.showImage(this.images[this.images.length - 1] ?? null);
+        this.viewer.take(this.images);
+        this.list.show(this.images, this.image);
+        if (this.images.every(one => one.isDone)) say("ask-progress", "");
+    }
+
+    // ---- what the worker reports
 
     hear(report: Report): void {
-        if (report.id !== this.id) return;
-        if (report.kind === "bytes") {
-            this.bytes = new Uint8Array(report.bytes);
-            this.digest = report.digest;
-            this.notes.take(report.digest);
-        } else if (report.kind === "facts") this.showFacts(report.status, report.facts);
-        else if (report.kind === "records") this.takeRecords(report);
-        else if (report.kind === "braking") {
-            this.braking = report.rows;
-            if (this.records) this.lists.showBraking(this.records, report.rows);
-        } else if (report.kind === "slots") this.takeSlots(report);
-        else if (report.kind === "replay") this.takeReplay(report.lives, report.unreadable);
-        else if (report.kind === "causes") {
-            for (const [index, why] of report.causes) this.causes.set(index, why);
-            this.showInterventions();
-        } else if (report.kind === "why") {
-            this.event.hear(report);
-            this.showEvent();
-        } else if (report.kind === "progress")
+        const image = this.images.find(({ id }) => id === report.id);
+        if (!image) return;
+        image.hear(report);
+        const isShown = image === this.image;
+        if (report.kind === "bytes") this.compare(image);
+        else if (report.kind === "facts" && !image.facts) this.giveUp(image, whyText(report.status));
+        else if (report.kind === "failed") this.giveUp(image, report.says);
+        else if (report.kind === "records") this.takeRecords(image);
+        else if (report.kind === "progress")
             say("ask-progress", SAY.progress(report.done, report.all || report.done, report.what));
-        else if (report.kind === "done") {
-            say("ask-progress", "");
-            this.isDone = true;
-        } else this.refuse(SAY.noImage(this.name, report.says));
+        else if (report.kind === "done") say("ask-progress", this.isDone ? "" : SAY.reading);
+        else if (!isShown) return;
+        else if (report.kind === "facts") this.showFacts();
+        else if (report.kind === "braking") this.showBraking();
+        else if (report.kind === "slots") this.showSlots();
+        else if (report.kind === "why") this.event.show(image);
+        else this.showAnswers();
     }
 
-    private showFacts(status: number, facts: Facts|null): void {
-        if (!facts) {
-            this.refuse(SAY.noImage(this.name, STATUSES[status] ?? `status ${status}`) + this.bySlots.offer());
-            return;
-        }
-        this.facts = facts;
-        at("answers").hidden = false;
-        this.showImage();
+    /** An image that is shown already isn't shown twice; what came along with it is taken. */
+    private compare(image: AskedImage): void {
+        const same = this.images.find(one => one !== image && one.digest === image.digest);
+        if (same) {
+            same.marks = image.marks ?? same.marks;
+            same.identity = image.identity ?? same.identity;
+            same.reckon(this.day.drift);
+            this.remove(image);
+            this.showImage(same);
+            this.refuse(SAY.same(image.name, same.letter, same.name));
+        } else if (image === this.image) this.notes.take(image.digest);
     }
 
-    private showImage(): void {
-        const facts = this.facts;
-        if (!facts) return;
-        const rows = imageTexts(this.name, this.digest, this.bytes.length, facts, this.records, this.lives.length,
-            this.unreadable, this.slotsGiven !== null);
-        show("facts", ...rows.flatMap(([name, value]) => [make("dt", {}, name), make("dd", {}, value)]));
+    private giveUp(image: AskedImage, why: string): void {
+        this.remove(image);
+        this.refuse(SAY.noImage(image.name, why) + this.bySlots.offer(image.given));
     }
 
-    private takeRecords(report: RecordsReport): void {
-        const { status, bytes, unreadable, lives, speeds, interventions, trips } = report;
-        this.journalStatus = status;
-        this.unreadable = unreadable;
-        this.records = new Records(new Uint8Array(bytes));
-        this.lives = lives;
-        this.speeds = speeds;
-        this.interventions = interventions;
-        this.trips = trips;
-        this.day.hold(this.records);
-        this.viewer.take(report.signals, lives, interventions);
-        this.showImage();
-        this.showInterventions();
-        const scrub = at<HTMLInputElement>("scrub");
-        scrub.max = String(Math.max(0, this.records.count - 1));
-        scrub.disabled = this.records.count === 0;
-        if (status !== END) say("ask-error", this.whyUnread(status));
-        if (this.records.count) this.followHash();
-        else say("event-said", SAY.noRecord);
+    private takeRecords(image: AskedImage): void {
+        image.reckon(this.day.drift);
+        this.viewer.take(this.images);
+        image.index = lastOf(image.interventions)?.first ?? 0;
+        if (image.status !== END) this.refuse(this.whyUnread(image));
+        if (location.hash === this.ownLink) this.link("");
+        this.showImage(image);
+        this.followHash();
     }
 
     /** Why there is no journal, and what can be done. */
-    private whyUnread(status: number): string {
-        const slots = this.facts?.slots ?? 0, bytes = this.bytes.length;
-        const isCut = this.slotsGiven === null && BySlots.isCut(bytes, slots);
-        if (isCut) return SAY.cutOff(this.name, bytes, slots, imageSize(slots));
-        return SAY.noImage(this.name, STATUSES[status] ?? `status ${status}`) + this.bySlots.offer();
+    private whyUnread({ facts, bytes, name, isBySlots, given, status }: AskedImage): string {
+        const slots = facts?.slots ?? 0;
+        if (!isBySlots && BySlots.isCut(bytes.length, slots))
+            return SAY.cutOff(name, bytes.length, slots, imageSize(slots));
+        return SAY.noImage(name, whyText(status)) + this.bySlots.offer(given);
     }
 
-    private takeSlots({ slots, newest, unwritten, heads, isWhole }: SlotsReport): void {
-        const whole = isWhole && this.slotsGiven === null;
-        this.slots = slots;
-        this.newest = newest;
-        this.unwritten = unwritten;
-        for (const head of heads) this.heads.set(head.number, head);
-        show("ring-legend", ...legendOf(slots));
-        this.isWhole = whole;
+    // ---- what is shown of an image
+
+    /** Shows all about an image. */
+    showImage(image: AskedImage|null): void {
+        this.image = image;
+        clearTimeout(this.linking);
+        for (const part
+                 of ["brief", "braking", "lives", "interventions", "hex", "fields", "kept", "ring", "ring-legend"])
+            show(part);
+        for (const part of ["replay-said", "slot-said", "verdict", "event-said"]) say(part, "");
+        this.list.show(this.images, image);
+        this.day.show(image);
+        if (image?.digest) this.notes.take(image.digest);
+        this.showFacts();
+        if (!image?.records) return;
+        const { records } = image, scrub = at<HTMLInputElement>("scrub");
+        scrub.max = String(Math.max(0, records.count - 1));
+        scrub.disabled = records.count === 0;
+        this.showBraking();
+        if (image.slots.length) this.showSlots();
+        this.showAnswers();
+        if (records.count) this.choose(image.index);
+        else say("event-said", SAY.noRecord);
+    }
+
+    private showFacts(): void {
+        const { image } = this, facts = image?.facts;
+        at("answers").hidden = !facts;
+        if (!facts) return;
+        const { name, digest, bytes, records, lives, unreadable, isBySlots, identity } = image;
+        const rows = imageTexts(name, digest, bytes.length, facts, records, lives.length, unreadable, isBySlots);
+        if (identity) rows.push(["whose", `${identityText(identity)} (${DAY.outside})`]);
+        show("facts", ...rows.flatMap(([what, value]) => [make("dt", {}, what), make("dd", {}, value)]));
+    }
+
+    private showBraking(): void {
+        if (this.image?.records) this.lists.showBraking(this.image.records, this.image.braking);
+    }
+
+    private showSlots(): void {
+        const { image } = this;
+        if (!image) return;
+        show("ring-legend", ...legendOf(image.slots));
+        const lost = lostTexts([...image.heads.values()]), { isWhole, newest } = image;
         this.showBrief();
-        const lost = lostTexts(heads);
         say("verdict",
-            whole ? SAY.whole : SAY.notWhole + (lost.length ? ` Lost: ${lost.slice(0, 20).join("; ")}.` : ""));
-        at("verdict").className = `verdict ${whole ? "good" : "bad"}`;
+            isWhole ? SAY.whole : SAY.notWhole + (lost.length ? ` Lost: ${lost.slice(0, 20).join("; ")}.` : ""));
+        at("verdict").className = `verdict ${isWhole ? "good" : "bad"}`;
         if (newest)
             show("kept",
                 ...keptTexts(newest.kept).flatMap(([name, value]) => [make("dt", {}, name), make("dd", {}, value)]));
-        const bad = slots.findIndex(slot => !slot.isSound);
-        this.chooseSlot(bad >= 0 ? bad : null);
-        this.showEvent();
+        const bad = image.slots.findIndex(slot => !slot.isSound);
+        this.chooseSlot(image, bad >= 0 ? bad : null);
+        this.event.show(image);
     }
 
-    private chooseSlot(slot: number|null): void {
-        drawRing(
-            at("ring") as unknown as SVGSVGElement, this.slots, this.facts?.newest ?? 0, slot, n => this.chooseSlot(n));
-        const found = slot === null ? undefined : this.slots[slot];
-        say("slot-said", found && slot !== null ? slotText(found, slot, this.heads.get(found.number)) : "");
+    private chooseSlot(image: AskedImage, slot: number|null): void {
+        const { slots, facts, heads } = image, found = slot === null ? undefined : slots[slot];
+        drawRing(at("ring") as unknown as SVGSVGElement, slots, facts?.newest ?? 0, slot,
+            n => this.chooseSlot(image, n));
+        say("slot-said", found && slot !== null ? slotText(found, slot, heads.get(found.number)) : "");
     }
 
-    private takeReplay(lives: Replay[], unreadable: number[]): void {
-        this.replays = lives;
-        this.showLives();
-        this.showInterventions();
-        this.showEvent();
-        say("replay-said", replayText(lives, unreadable));
-    }
-
-    private showLives(): void {
-        if (this.records && this.replays) this.lists.showLives(this.records, this.replays);
-    }
-
-    private showDay(): void {
-        this.showLives();
-        this.showInterventions();
-        this.viewer.setTimes(this.day.times);
-        this.showEvent();
-    }
-
-    private showInterventions(): void {
-        const { records, interventions, speeds, trips } = this;
-        if (!records) return;
-        const causes = counted(records, this.replays, this.causes);
-        this.lists.showInterventions(records, interventions, speeds, trips, causes);
+    /** What the replay, the causes and the judge of readings came to. */
+    private showAnswers(): void {
+        const { image } = this, records = image?.records;
+        if (!image || !records) return;
+        const { replays, interventions, speeds, trips, counted, unreadable } = image;
+        if (replays) {
+            this.lists.showLives(records, replays);
+            say("replay-said", replayText(replays, unreadable));
+        }
+        this.lists.showInterventions(records, interventions, speeds, trips, counted);
         this.showBrief();
-    }
-
-    /** The records that have a note. */
-    private get noted(): number[] {
-        return this.notes.all.map(({ event }) => this.indexOf(event)).filter((n): n is number => n !== null);
-    }
-
-    /** The sentences of the verdict; null as long as they aren't known. */
-    private get verdict(): string[]|null {
-        const { journalStatus, isWhole, replays } = this;
-        return isWhole === null || !replays ? null : verdictOf(journalStatus, isWhole, replays);
+        this.event.show(image);
     }
 
     private showBrief(): void {
-        const { records, day, verdict } = this, causes = records && counted(records, this.replays, this.causes);
-        if (!records || !causes) return;
+        const { image } = this, records = image?.records;
+        if (!image || !records) return;
         const utc = (n: number): string =>
-            day.times ? `, ${utcText(day.of(records.life(n), records.moment(n)))} UTC ${DAY.byMarks}` : "";
-        const { lives, speeds, interventions, trips, isWhole, newest, unwritten } = this;
-        const
-            known = { records, lives, speeds, interventions, trips, isWhole, verdict, newest, unwritten, causes, utc };
-        show("brief", ...briefRows(known).flatMap(([name, says]) => [make("dt", {}, name), make("dd", {}, ...says)]));
+            image.times ? `, ${utcText(image.utc(n))} UTC ${DAY.byMarks}` : "";
+        const { lives, speeds, interventions, trips, isWhole, newest, unwritten, implausible, verdict } = image;
+        const about = { lives, speeds, interventions, trips, isWhole, newest, unwritten, implausible, verdict };
+        const rows = briefRows({ records, ...about, causes: image.counted, utc });
+        show("brief", ...rows.flatMap(([name, says]) => [make("dt", {}, name), make("dd", {}, ...says)]));
     }
 
-    private indexOf(event: number): number|null { return this.records ? this.records.find(event) : null; }
+    /** The marks of an image are others. */
+    private showDay(image: AskedImage): void {
+        this.viewer.take(this.images);
+        if (image !== this.image) return;
+        this.day.show(image);
+        this.showAnswers();
+    }
+
+    /** The clocks run off by another rate. */
+    private reckon(): void {
+        for (const image of this.images) image.reckon(this.day.drift);
+        if (this.image) this.showDay(this.image);
+    }
+
+    // ---- records
+
+    /** The records of an image that have a note. */
+    private notedOf({ digest, records }: AskedImage): number[] {
+        return this.notes.of(digest).flatMap(({ event }) => records?.find(event) ?? []);
+    }
 
     private followHash(): void {
         const event = /^#event=(\d+)$/.exec(location.hash)?.[1];
         if (event !== undefined) this.chooseEvent(Number(event));
-        else this.choose(lastOf(this.interventions)?.first ?? 0);
+        else if (this.image) this.choose(this.image.index);
     }
 
     private link(hash: string): void {
@@ -324,52 +363,34 @@ export class Ask {
     }
 
     chooseEvent(event: number): void {
-        const index = this.indexOf(event);
+        const index = this.records?.find(event) ?? null;
         if (index !== null) this.choose(index);
         else say("event-said", `Event ${count(event)} is in no block of the journal that can be read.`);
     }
 
     choose(index: number): void {
-        const { records } = this;
-        if (!records || !records.count) return;
-        this.index = Math.max(0, Math.min(records.count - 1, index));
-        const event = records.event(this.index);
-        at<HTMLInputElement>("scrub").value = String(this.index);
+        const { image, records } = this;
+        if (!image || !records?.count) return;
+        image.index = Math.max(0, Math.min(records.count - 1, index));
+        const event = records.event(image.index);
+        at<HTMLInputElement>("scrub").value = String(image.index);
         at<HTMLInputElement>("event-number").value = String(event);
         // (a browser takes few links in a short time, so the link waits until the scrubber stands)
         clearTimeout(this.linking);
         this.linking = setTimeout(() => this.link(`#event=${event}`), LINK_MS) as unknown as number;
-        this.showEvent();
+        this.event.show(image);
         this.notes.show(event);
-        this.viewer.choose(this.index);
+        this.viewer.choose(image);
     }
 
-    private showEvent(): void {
-        const { id, records, speeds, replays, heads, bytes, facts, index } = this;
-        if (records?.count && facts) this.event.show({ id, records, speeds, replays, heads, bytes, facts }, index);
-    }
+    // ---- what tests read
 
-    /** What tests read. */
-    get findings(): object {
-        return {
-            facts: this.facts,
-            slots: this.slots,
-            status: this.journalStatus,
-            unreadable: this.unreadable,
-            lives: this.replays,
-            digest: this.digest,
-            interventions: this.interventions,
-            trips: this.trips,
-            unwritten: this.unwritten,
-            causes: [...this.causes],
-            count: this.records?.count ?? 0,
-            newest: this.newest,
-            isWhole: this.isWhole,
-            day: this.day.findings,
-            braking: this.braking,
-            verdict: this.verdict,
-            counted: this.records && [...counted(this.records, this.replays, this.causes)],
-            events: [...this.causes.keys()].map(index => this.records?.event(index))
-        };
-    }
+    get records(): AskedImage["records"] { return this.image?.records ?? null; }
+    get index(): number { return this.image?.index ?? 0; }
+    /** Whether everything about all images is shown. */
+    get isDone(): boolean { return this.images.length > 0 && this.images.every(one => one.isDone); }
+
+    get findings(): object { return {...this.image?.findings ?? { facts: null }, day: this.day.findings }; }
 }
+
+function whyText(status: number): string { return STATUSES[status] ?? `status ${status}`; }

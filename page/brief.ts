@@ -5,6 +5,7 @@ import {Child, make} from "./dom";
 import {Block, POWER_UP, Replay, Why} from "./layouts";
 import {askedOf, Intervention, lastOf, LifeRange} from "./lives";
 import {Unwritten} from "./messages";
+import {Finding} from "./plausibility";
 import {
     brakeText,
     causeText,
@@ -15,12 +16,13 @@ import {
     metres,
     modeName,
     seconds,
+    speedText,
     tripCauseText
 } from "./shown";
 import {BRIEF, VERDICTS} from "./texts";
-import {VERDICT} from "./wording";
+import {implausibleText, VERDICT} from "./wording";
 
-const MOST_TRIPS = 12;
+const MOST_TRIPS = 12, MOST_IMPLAUSIBLE = 12;
 
 /** What is known of an image so far; what isn't yet is null or not there. */
 export interface Known {
@@ -34,6 +36,7 @@ export interface Known {
     isWhole: boolean|null;
     /** The sentences of the verdict. */
     verdict: string[]|null;
+    implausible: Finding[];
     newest: Block|null;
     unwritten: Unwritten|null;
     /** The time of day of a record by marks, with a comma before it; nothing where there are no marks. */
@@ -92,12 +95,27 @@ function strong(text: string): HTMLElement { return make("strong", { class: "bad
 
 function verdict({ verdict: said }: Known): Child[] {
     if (!said) return [BRIEF.notYet];
-    return [said.length ? strong(`${said.join("; ")}.`) : `${VERDICT.none}.`, ` ${VERDICT.notJudged}`];
+    return [said.length ? strong(`${said.join(". ")}.`) : `${VERDICT.none}.`];
+}
+
+/** What is implausible, where there is more than the verdict says. */
+function implausible({ implausible: all }: Known): Child[] {
+    const line = (one: Finding): HTMLElement =>
+        make("li", {}, link(one.first_event), `: ${implausibleText(one).replace(/^implausible: /, "")}`);
+    const more = all.length - MOST_IMPLAUSIBLE;
+    return [
+        make("ul", {}, ...all.slice(0, MOST_IMPLAUSIBLE).map(line),
+            more > 0 && make("li", {}, VERDICT.furtherOnes(more)))
+    ];
+}
+
+function speedAt(speed: number): string {
+    return Number.isNaN(speed) ? BRIEF.unknownSpeed : `at ${speedText(speed)}`;
 }
 
 /** Where and how fast the train was at a record. */
 function at({ records, speeds, utc }: Known, index: number): string {
-    return `at ${metres(records.front(index))}, at ${kmh(speeds[index] ?? 0)} km/h (limit ${
+    return `at ${metres(records.front(index))}, ${speedAt(speeds[index] ?? NaN)} (limit ${
         kmh(records.limit(index))} km/h), moment ${seconds(records.moment(index))}${utc(index)}`;
 }
 
@@ -138,7 +156,7 @@ function lastLife({ records, lives, speeds, utc }: Known): Child[] {
     const end = records.get(life.end - 1), events = `${count(records.event(life.from))} to ${count(end.event)}`;
     return [
         `life ${life.number}, events ${events}; at its end ${modeName(end.mode)}, level ${levelText(end.level)}, `,
-        `${brakeText(end.brake)}, speed ${kmh(speeds[life.end - 1] ?? 0)} km/h, at ${metres(end.front)}, `,
+        `${brakeText(end.brake)}, speed ${speedText(speeds[life.end - 1] ?? NaN)}, at ${metres(end.front)}, `,
         `moment ${seconds(end.moment)}${utc(life.end - 1)}`
     ];
 }
@@ -170,7 +188,9 @@ export function briefRows(known: Known): [string, Child[]][] {
     const powerUps = known.interventions.filter(one => one.isPowerUp).length;
     if (!known.records.count) return [["Verdict", verdict(known)]];
     return [
-        ["Verdict", verdict(known)], ["Last intervention", intervention(known)], ["Trips", trips(known)],
+        ["Verdict", verdict(known)],
+        ...(known.implausible.length > 1 ? [["Implausible", implausible(known)] as [string, Child[]]] : []),
+        ["Last intervention", intervention(known)], ["Trips", trips(known)],
         ["Last life", lastLife(known)], ["Released", released(known)],
         ...(powerUps ? [["Power-ups", [BRIEF.powerUps(powerUps)]] as [string, Child[]]] : [])
     ];

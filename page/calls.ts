@@ -322,9 +322,15 @@ export class Records {
     brake(index: number): number { return this.reader.u8(BYTES.record * index + 52); }
     mode(index: number): number { return this.reader.u8(BYTES.record * index + 50); }
     indications(index: number): number { return this.reader.u8(BYTES.record * index + 53); }
+    hasPlace(index: number): boolean { return this.reader.hasPlace(BYTES.record * index); }
+    uncertainty(index: number): number { return this.reader.u64(BYTES.record * index + 32); }
+    /** The movement of an odometer reading. */
+    readMovement(index: number): number { return this.payloadNumber(index, 0) | 0; }
     /** The speed of an odometer reading. */
-    readSpeed(index: number): number {
-        const at = BYTES.record * index + 56 + 4;
+    readSpeed(index: number): number { return this.payloadNumber(index, 4); }
+
+    private payloadNumber(index: number, from: number): number {
+        const at = BYTES.record * index + 56 + from;
         return this.reader.u8(at) * 0x1000000 + this.reader.u8(at + 1) * 0x10000 + this.reader.u8(at + 2) * 0x100 +
             this.reader.u8(at + 3);
     }

@@ -4,7 +4,8 @@ import {SECTOR} from "./layouts";
 import {SAY} from "./texts";
 import {looksLikeMarks} from "./times";
 
-const MOST_BYTES = 512 * 1024 * 1024, MOST_OF_MARKS = 16 * 1024 * 1024;
+export const MOST_BYTES = 512 * 1024 * 1024;
+const MOST_OF_MARKS = 16 * 1024 * 1024;
 
 /** Hands on the files that are dropped or chosen together. */
 export function whenChosen(take: (files: File[]) => void): void {
@@ -30,12 +31,37 @@ async function isOfMarks(file: File): Promise<boolean> {
     return file.name.endsWith(".times") || looksLikeMarks(new Uint8Array(await file.slice(0, 256).arrayBuffer()));
 }
 
-/** The image and the marks among some files; null where there is more than one of either. */
-export async function sorted(files: File[]): Promise<{image: File | undefined; marks: File | undefined}|null> {
-    const areMarks = await Promise.all(files.map(isOfMarks));
-    const marks = files.filter((_, n) => areMarks[n]), images = files.filter((_, n) => !areMarks[n]);
-    return marks.length > 1 || images.length > 1 ? null : { image: images[0], marks: marks[0] };
+/** An image with the files next to it. */
+export interface Chosen {
+    image: File;
+    marks: File|null;
+    identity: File|null
 }
+type Kind = "marks"|"identity";
+const ENDS: Record<Kind, string> = {marks: ".times", identity: ".identity"};
+
+/** The images among some files, and marks and identities without an image among them. One is of the image whose name it
+ * has, with its ending; or of the only image where there is one of each. */
+export async function sorted(files: File[]): Promise<{chosen: Chosen[]; alone: [Kind, File][]}> {
+    const areMarks = await Promise.all(files.map(isOfMarks));
+    const kindOf = (file: File, n: number): Kind|null =>
+        areMarks[n] ? "marks" : file.name.endsWith(ENDS.identity) ? "identity" : null;
+    const chosen = files.filter((file, n) => !kindOf(file, n)).map(image => ({ image, marks: null, identity: null }));
+    const alone: [Kind, File][] = [], of = (kind: Kind): File[] => files.filter((file, n) => kindOf(file, n) === kind);
+    for (const kind of ["marks", "identity"] as const) {
+        const all = of(kind);
+        for (const file of all) {
+            const only = chosen.length === 1 && all.length === 1 ? chosen[0] : undefined;
+            const one: Chosen|undefined = chosen.find(({ image }) => image.name + ENDS[kind] === file.name) ?? only;
+            if (one) one[kind] = file;
+            else alone.push([kind, file]);
+        }
+    }
+    return { chosen, alone };
+}
+
+/** Whether marks or an identity are of an image of a name, by theirs. */
+export function isNextTo(kind: Kind, file: File, name: string): boolean { return file.name === name + ENDS[kind]; }
 
 /** Why a file can't be an image, by its size; nothing where it can be one. */
 export function misfit(file: File): string {

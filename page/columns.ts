@@ -76,7 +76,7 @@ function addHeld(to: Sums, column: number, { limit, brake, mode, level }: Signal
 }
 
 function addRecord(to: Sums, column: number, signals: Signals, other: Float64Array, n: number): void {
-    const speed = signals.speed[n] ?? 0, value = other[n] ?? 0;
+    const speed = signals.speed[n] ?? NaN, value = other[n] ?? 0;
     addHeld(to, column, signals, n);
     widen(to.speed, column, speed, speed);
     widen(to.other, column, value, value);

@@ -5,6 +5,7 @@ import {AHEAD, NATIONAL_RELEASE, RELEASE} from "./texts";
 import {Why} from "./layouts";
 
 export interface Shown {
+    /** NaN where it isn't known. */
     speed: number;
     limit: number;
     target: number|null;
@@ -75,7 +76,7 @@ export class Dial {
     }
 
     private angle(kmh: number): number {
-        return (-SWEEP + 2 * SWEEP * Math.min(Math.max(kmh, 0), this.most) / this.most) * Math.PI / 180;
+        return (-SWEEP + 2 * SWEEP * Math.min(Math.max(kmh || 0, 0), this.most) / this.most) * Math.PI / 180;
     }
     private point(kmh: number, radius: number): [number, number] {
         return [radius * Math.sin(this.angle(kmh)), -radius * Math.cos(this.angle(kmh))];
@@ -107,11 +108,12 @@ export class Dial {
             this.arc(Math.max(0, limit - 3 * degree), Math.max(limit, 3 * degree), OUTER - HOOK / 2, HOOK, hook));
         this.arcs.replaceChildren(...parts.filter((part): part is Element => part !== null));
         const colour = needle(shown);
+        this.hand.setAttribute("visibility", Number.isNaN(speed) ? "hidden" : "visible");
         this.hand.style.transform = `rotate(${this.angle(speed) * 180 / Math.PI}deg)`;
         this.pointer.setAttribute("fill", colour);
         this.hub.setAttribute("fill", colour);
         this.digits.setAttribute("fill", colour === RED ? WHITE : "#031122");
-        this.digits.textContent = String(Math.round(speed));
+        this.digits.textContent = Number.isNaN(speed) ? "?" : String(Math.round(speed));
     }
 }
 

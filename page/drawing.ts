@@ -7,30 +7,49 @@ import {Band, Columns} from "./columns";
 import {Axis, NOTHING, range, SEVERAL, Signals} from "./signals";
 import {VIEW} from "./wording";
 
-export const LEFT = 58, RIGHT = 10, HEIGHT = 392, TOP = 22, BOTTOM = 350;
+export const LEFT = 58, RIGHT = 10, TOP = 22;
 const MAIN: [number, number] = [TOP, 206], OTHER: [number, number] = [220, 268];
 const LANES = {
-    brake: 276,
-    mode: 294,
-    level: 312,
-    events: 330
+    brake: 0,
+    mode: 18,
+    level: 36,
+    events: 54
 },
-      LANE = 14, MOST_DOTS = 300, MARK = 8;
+      LANE = 14, LANES_AT = 276, LANES_HEIGHT = 74, HEAD = 18, BELOW = 42, MOST_DOTS = 300, MARK = 8, LETTER = 7,
+      EACH_TICK = 90;
+/** How high a column's events are drawn, by their number. */
+const TICKS = [0, 6, 10, 10, LANE];
 
-/** What is drawn. */
-export interface Scene {
+/** An image in the picture. */
+export interface Layer {
+    /** Its letter, its name, and its number among the colours. */
+    letter: string;
+    name: string;
+    colour: number;
     signals: Signals;
     axis: Axis;
-    from: number;
-    to: number;
-    width: number;
     columns: Columns;
     /** Where a brake is commanded. */
     commands: { index: number; brake: number }[];
     notes: number[];
     /** What stands at a place of the axis. */
-    label: (life: number, value: number) => string;
+    label: (life: number, value: number) => string
+}
+/** What is drawn. */
+export interface Scene {
+    layers: Layer[];
+    from: number;
+    to: number;
+    width: number;
     unit: string
+}
+
+/** Where the lanes of each image begin, where the last of them ends, and how high the picture is. */
+export function layoutOf(layers: number): { lanes: number[]; bottom: number; height: number } {
+    const head = layers > 1 ? HEAD : 0, each = LANES_HEIGHT + head;
+    const lanes = Array.from({ length: layers }, (_, n) => LANES_AT + n * each + head);
+    const bottom = LANES_AT + Math.max(1, layers) * each;
+    return { lanes, bottom, height: bottom + BELOW };
 }
 
 export function plotWidth(width: number): number { return Math.max(100, Math.round(width - LEFT - RIGHT)); }
@@ -38,11 +57,11 @@ export function plotWidth(width: number): number { return Math.max(100, Math.rou
 class Painter {
     private readonly parts: Element[] = [];
     private readonly inner: number;
-    private readonly isSparse: boolean;
+    private readonly layout: { lanes: number[]; bottom: number; height: number };
 
     constructor(private readonly scene: Scene) {
         this.inner = plotWidth(scene.width);
-        this.isSparse = scene.columns.count <= 2 * this.inner;
+        this.layout = layoutOf(scene.layers.length);
     }
 
     private X(x: number): number {
@@ -51,55 +70,71 @@ class Painter {
     private text(x: number, y: number, anchor: string, says: string, kind = "axis"): void {
         this.parts.push(svg("text", { x: x.toFixed(1), y, "text-anchor": anchor, class: kind }, says));
     }
-    private path(d: string, kind: string): void {
-        if (d) this.parts.push(svg("path", { d, class: kind, fill: "none" }));
+    private path(d: string, kind: string, { colour }: { colour: number } = { colour: 0 }): void {
+        if (d) this.parts.push(svg("path", { d, class: colour ? `${kind} image-${colour}` : kind, fill: "none" }));
     }
+    private isSparse({ columns }: Layer): boolean { return columns.count <= 2 * this.inner; }
 
     paint(): Element[] {
-        const { signals, columns, axis } = this.scene;
-        const most =
-            1.08 * Math.max(10_000, bounds([...columns.speed.high, ...columns.limit.high].filter(Number.isFinite))[1]);
+        const { layers, unit } = this.scene, tops = layers.flatMap(({ columns: { speed, limit } }) =>
+            [...speed.high, ...limit.high].filter(Number.isFinite));
+        const most = 1.08 * Math.max(10_000, bounds(tops)[1]);
         const main = (v: number): number => MAIN[1] - (MAIN[1] - MAIN[0]) * v / most;
         for (const v of steps(0, most / 1000, 5)) {
             this.path(`M${LEFT} ${main(1000 * v).toFixed(1)}h${this.inner}`, "grid");
             this.text(LEFT - 6, main(1000 * v) + 4, "end", String(v));
         }
         this.lives();
-        this.band("brake", columns.brake, state => state === 0, state => VIEW.brakes[state] ?? "");
-        this.band("mode", columns.mode, state => state === NOTHING,
-            state => state === SEVERAL ? VIEW.several : modeWord(state));
-        this.band("level", columns.level, state => state === NOTHING,
-            state => state === SEVERAL ? VIEW.several : String(state));
-        this.line(signals.limit, columns.limit, main, "limit-line", true);
-        this.line(signals.speed, columns.speed, main, "speed-line", false);
-        this.other(axis.kind === "place" ? signals.moment : signals.place, axis.kind === "place" ? 1000 : 100);
-        this.events();
-        this.commands();
-        for (const [name, y] of Object.entries(LANES))
-            this.text(LEFT - 6, y + 11, "end", VIEW.lanes[name as keyof typeof LANES]);
+        layers.forEach((layer, n) => this.lanes(layer, this.layout.lanes[n] ?? 0));
+        for (const layer of layers) {
+            this.line(layer, layer.signals.limit, layer.columns.limit, main, "limit-line", true);
+            this.line(layer, layer.signals.speed, layer.columns.speed, main, "speed-line", false);
+        }
+        this.other();
+        for (const layer of layers) this.commands(layer);
         this.text(4, TOP - 8, "start", "km/h");
-        this.text(LEFT + this.inner, HEIGHT - 6, "end", this.scene.unit);
+        this.text(LEFT + this.inner, this.layout.height - 6, "end", unit);
         return this.parts;
     }
 
+    /** The bands of an image, with its name where there are several. */
+    private lanes(layer: Layer, top: number): void {
+        const { columns } = layer;
+        if (this.scene.layers.length > 1) {
+            const most = Math.floor(this.inner / LETTER), says = `${layer.letter}: ${layer.name}`;
+            this.text(LEFT, top - 4, "start", says.length > most ? `${says.slice(0, most)}…` : says,
+                `axis image-name image-${layer.colour}`);
+        }
+        this.band(top, "brake", columns.brake, state => state === 0, state => VIEW.brakes[state] ?? "");
+        this.band(top, "mode", columns.mode, state => state === NOTHING,
+            state => state === SEVERAL ? VIEW.several : modeWord(state));
+        this.band(top, "level", columns.level, state => state === NOTHING,
+            state => state === SEVERAL ? VIEW.several : String(state));
+        this.events(layer, top);
+        for (const [name, y] of Object.entries(LANES))
+            this.text(LEFT - 6, top + y + 11, "end", VIEW.lanes[name as keyof typeof LANES]);
+    }
+
     /** The other axis: the place over time, or the time over places. */
-    private other(values: Float64Array, per: number): void {
-        const { columns, axis } = this.scene;
-        const finite = (all: Float64Array): number[] => [...all].filter(Number.isFinite);
-        const [low, high] = bounds([...finite(columns.other.low), ...finite(columns.other.high)]);
+    private other(): void {
+        const { layers } = this.scene, isPlace = layers[0]?.axis.kind === "place", per = isPlace ? 1000 : 100;
+        const ends = layers.flatMap(({ columns: { other } }) => [...other.low, ...other.high].filter(Number.isFinite));
+        const [low, high] = bounds(ends), unit = isPlace ? "s" : "m";
         const Y = (v: number): number => OTHER[1] - (OTHER[1] - OTHER[0]) * (v - low) / (high - low || 1);
-        const unit = axis.kind === "place" ? "s" : "m";
         this.text(LEFT - 6, OTHER[0] + 8, "end", `${Math.round(high / per).toLocaleString("en")} ${unit}`);
         this.text(LEFT - 6, OTHER[1], "end", `${Math.round(low / per).toLocaleString("en")} ${unit}`);
-        this.text(LEFT - 6, (OTHER[0] + OTHER[1]) / 2 + 6, "end",
-            axis.kind === "place" ? VIEW.lanes.moment : VIEW.lanes.place);
-        this.line(values, columns.other, Y, "other-line", false);
+        this.text(
+            LEFT - 6, (OTHER[0] + OTHER[1]) / 2 + 6, "end", isPlace ? VIEW.lanes.moment : VIEW.lanes.place);
+        for (const layer of layers)
+            this.line(layer, isPlace ? layer.signals.moment : layer.signals.place, layer.columns.other, Y, "other-line",
+                false);
     }
 
     /** A signal: each record where there are few, else the least and the greatest of each column. */
-    private line(values: Float64Array, band: Band, Y: (v: number) => number, kind: string, isHeld: boolean): void {
-        const { axis, from, to } = this.scene;
-        if (!this.isSparse) return this.path(this.dense(band, Y), kind);
+    private line(
+        layer: Layer, values: Float64Array, band: Band, Y: (v: number) => number, kind: string, isHeld: boolean): void {
+        const { axis, columns } = layer, { from, to } = this.scene;
+        if (!this.isSparse(layer)) return this.path(this.dense(axis, band, Y), kind, layer);
         let path = "", dots = "";
         for (const span of axis.spans) {
             const [first, end] = range(axis, span, from, to);
@@ -116,27 +151,43 @@ class Painter {
                 isDown = true;
             }
         }
-        this.path(path, kind);
-        if (this.scene.columns.count <= MOST_DOTS) this.path(dots, kind.replace("line", "dots"));
+        this.path(path, kind, layer);
+        if (columns.count <= MOST_DOTS) this.path(dots, kind.replace("line", "dots"), layer);
     }
 
-    private dense({ low, high }: Band, Y: (v: number) => number): string {
-        const starts = new Set(this.scene.axis.spans.map(span => Math.floor(this.X(span.low) - LEFT)));
-        let path = "", isDown = false;
+    /** The least and the greatest of each column; where both stay as they are, one line for several columns. */
+    private dense(axis: Axis, { low, high }: Band, Y: (v: number) => number): string {
+        const starts = new Set(axis.spans.map(span => Math.floor(this.X(span.low) - LEFT)));
+        let path = "", isDown = false, flat = NaN, held = -1;
+        const end = (): void => {
+            if (held >= 0) path += `H${LEFT + held + 0.5}`;
+            held = -1;
+        };
         for (let c = 0; c < low.length; c++) {
-            if (starts.has(c)) isDown = false;
+            if (starts.has(c)) {
+                end();
+                isDown = false;
+            }
             const least = low[c] ?? 0, most = high[c] ?? 0;
             if (least > most) continue;
-            path += `${isDown ? "L" : "M"}${LEFT + c + 0.5} ${Y(most).toFixed(1)}V${Y(least).toFixed(1)}`;
+            if (isDown && least === most && least === flat) {
+                held = c;
+                continue;
+            }
+            end();
+            const top = Math.round(10 * Y(most)) / 10, bottom = Math.round(10 * Y(least)) / 10;
+            path += `${isDown ? "L" : "M"}${LEFT + c + 0.5} ${top}V${bottom}`;
+            flat = least === most ? least : NaN;
             isDown = true;
         }
+        end();
         return path;
     }
 
     /** A band of states, a path for each; those of no interest are left out. */
-    private band(name: "brake"|"mode"|"level", states: Uint8Array, isEmpty: (state: number) => boolean,
+    private band(top: number, name: "brake"|"mode"|"level", states: Uint8Array, isEmpty: (state: number) => boolean,
         text: (state: number) => string): void {
-        const y = LANES[name], paths = new Map<number, string>(), texts: [number, string][] = [];
+        const y = top + LANES[name], paths = new Map<number, string>(), texts: [number, string][] = [];
         for (let from = 0, end = 0; from < states.length; from = end) {
             const state = states[from] ?? NOTHING;
             for (end = from + 1; end < states.length && states[end] === state;) end++;
@@ -151,26 +202,29 @@ class Painter {
         for (const [x, says] of texts) this.text(x, y + 11, "middle", says, "band-text");
     }
 
-    private events(): void {
-        const { matching } = this.scene.columns;
+    private events({ columns: { matching }, axis, notes: noted }: Layer, top: number): void {
+        const bottom = top + LANES.events + LANE;
+        const heightOf = (c: number): number => TICKS[Math.min(matching[c] ?? 0, TICKS.length - 1)] ?? LANE;
         let path = "", notes = "";
-        for (let c = 0; c < matching.length; c++)
-            if (matching[c])
-                path += `M${LEFT + c + 0.5} ${LANES.events + LANE}v${- Math.min(LANE, 4 + 2 * (matching[c] ?? 0))}`;
-        this.path(path, "event-ticks");
-        for (const index of this.scene.notes) {
-            const x = this.X(this.scene.axis.x[index] ?? NaN);
-            if (x >= LEFT && x <= LEFT + this.inner) notes += `M${x.toFixed(1)} ${LANES.events + LANE}v-18h9v7h-9`;
+        for (let from = 0, end = 0; from < matching.length; from = end) {
+            const height = heightOf(from);
+            for (end = from + 1; end < matching.length && heightOf(end) === height;) end++;
+            if (height) path += `M${LEFT + from} ${bottom}v${- height}h${end - from}v${height}z`;
+        }
+        if (path) this.parts.push(svg("path", { d: path, class: "event-ticks" }));
+        for (const index of noted) {
+            const x = this.X(axis.x[index] ?? NaN);
+            if (x >= LEFT && x <= LEFT + this.inner) notes += `M${x.toFixed(1)} ${bottom}v-18h9v7h-9`;
         }
         this.path(notes, "note-flags");
     }
 
     /** Where a brake is commanded; of several in a few pixels the worst. */
-    private commands(): void {
-        const { commands, axis } = this.scene, worst = new Map<number, number>();
+    private commands(layer: Layer): void {
+        const { commands, axis } = layer, worst = new Map<number, number>(), isSparse = this.isSparse(layer);
         for (const { index, brake } of commands) {
             const x = this.X(axis.x[index] ?? NaN),
-                  at = Math.round(this.isSparse ? 10 * x : MARK * 10 * Math.round(x / MARK)) / 10;
+                  at = Math.round(isSparse ? 10 * x : MARK * 10 * Math.round(x / MARK)) / 10;
             if (at >= LEFT && at <= LEFT + this.inner) worst.set(at, Math.max(worst.get(at) ?? 0, brake));
         }
         for (const [x, brake] of worst)
@@ -178,31 +232,55 @@ class Painter {
                 { d: `M${x} ${MAIN[1] - 9} l-5 9 h10 z`, class: brake === 2 ? "mark emergency" : "mark service" }));
     }
 
-    /** Where each life begins, and the labels of the axis. */
+    /** Where each life begins, and the labels of the axis; where lives cover one another, those of the longest. */
     private lives(): void {
-        const { axis, from, to, label } = this.scene;
+        const { layers, from, to } = this.scene, covered: [number, number][] = [];
+        const all = layers.flatMap(layer => layer.axis.spans.map(span => ({ layer, span })));
         let named = -Infinity, drawn = -Infinity;
-        for (const { life, offset, low, high } of axis.spans) {
+        for (const { layer: { axis, letter }, span: { life, low, high } } of sortedBy(all, ({ span }) => span.low)) {
             if (high < from || low > to) continue;
-            const x = this.X(low), left = Math.max(x, LEFT), right = Math.min(this.X(high), LEFT + this.inner);
-            if (x >= LEFT && x - drawn > 3) this.path(`M${(drawn = x).toFixed(1)} ${TOP}V${BOTTOM}`, "life-line");
-            if (axis.spans.length > 1 && left - named > 46)
-                this.text((named = left) + 3, TOP - 8, "start", VIEW.life(life.number));
-            const text = (value: number): string => label(life.number, value);
-            this.ticks(left, right, Math.max(low, from) - offset, Math.min(high, to) - offset, text, offset);
+            const x = this.X(low), left = Math.max(x, LEFT), isUtc = layers.length > 1 && axis.kind === "utc";
+            if (x >= LEFT && x - drawn > 3)
+                this.path(`M${(drawn = x).toFixed(1)} ${TOP}V${this.layout.bottom}`, "life-line");
+            if ((all.length > layers.length || isUtc) && left - named > (isUtc ? 60 : 46))
+                this.text((named = left) + 3, TOP - 8, "start",
+                    isUtc ? VIEW.lifeOf(letter, life.number) : VIEW.life(life.number));
+        }
+        for (const { layer, span: { life, offset, low, high } } of sortedBy(all, ({ span }) => span.low - span.high)) {
+            const seen: [number, number] = [Math.max(low, from), Math.min(high, to)];
+            if (this.X(seen[1]) - this.X(seen[0]) < EACH_TICK) continue;
+            for (const [begin, end] of without(seen, covered)) {
+                covered.push([begin, end]);
+                const text = (value: number): string => layer.label(life.number, value);
+                this.ticks(this.X(begin), this.X(end), begin - offset, end - offset, text, offset);
+            }
         }
     }
 
     private ticks(left: number, right: number, low: number, high: number, label: (value: number) => string,
         offset: number): void {
-        const { per } = this.scene.axis, about = Math.floor((right - left) / 90);
+        const { per } = this.scene.layers[0]?.axis ?? { per: 1 }, about = Math.floor((right - left) / EACH_TICK);
+        const { bottom } = this.layout;
         if (about < 1) return;
         for (const tick of steps(low / per, high / per, about)) {
             const x = this.X(tick * per + offset);
-            this.path(`M${x.toFixed(1)} ${BOTTOM}v4`, "grid");
-            this.text(x, BOTTOM + 17, "middle", label(tick * per), "axis tick-label");
+            this.path(`M${x.toFixed(1)} ${bottom}v4`, "grid");
+            this.text(x, bottom + 17, "middle", label(tick * per), "axis tick-label");
         }
     }
+}
+
+function sortedBy<T>(all: T[], key: (one: T) => number): T[] {
+    return [...all].sort((one, other) => key(one) - key(other));
+}
+
+/** The parts of a range that others don't cover. */
+function without(range: [number, number], covered: [number, number][]): [number, number][] {
+    let left: [number, number][] = range[0] <= range[1] ? [range] : [];
+    for (const [low, high] of covered)
+        left = left.flatMap(([from, to]): [number, number][] => to < low || from > high ? [[from, to]]
+                : ([[from, low], [high, to]] as [number, number][]).filter(([begin, end]) => begin < end));
+    return left;
 }
 
 /** The elements of a scene. */

@@ -1,51 +1,36 @@
 // An event of an image: what the driver saw, why it was answered so, and its bytes.
 import {outcomeText} from "./answers";
 import {reasonOf} from "./brief";
-import {Calls, Records} from "./calls";
+import {Calls} from "./calls";
 import {Day} from "./day";
 import {Dial, scaleOf, shownOf} from "./dial";
 import {at, make, say, show} from "./dom";
 import {fieldsOf, placeOf, showBytes, sizeOf} from "./fields";
-import {Facts, JournalRecord, Replay, TELEGRAM} from "./layouts";
-import {Head, Order, WhyReport} from "./messages";
-import {brakeReason, brakeText, count, eventText, kmh, levelText, limitText, modeName} from "./shown";
+import {AskedImage} from "./image";
+import {Facts, JournalRecord, TELEGRAM} from "./layouts";
+import {Order} from "./messages";
+import {brakeReason, brakeText, count, eventText, kmh, levelText, limitText, modeName, speedText} from "./shown";
 import {offerApart} from "./telegram";
 import {SAY} from "./texts";
 
 const WAIT_MS = 40;
 
-/** What is known of the image; the causes count where the replays are there. */
-export interface Asked {
-    id: number;
-    records: Records;
-    speeds: Float64Array;
-    replays: Replay[]|null;
-    heads: Map<number, Head>;
-    bytes: Uint8Array;
-    facts: Facts
-}
-
 export class EventView {
     private readonly dial = new Dial(at("ask-dial"));
-    private readonly whys = new Map<number, WhyReport>();
     private asking = 0;
 
     constructor(private readonly worker: { postMessage(order: Order): void }, private readonly calls: Calls,
         private readonly day: Day) {}
 
-    /** Another image is asked. */
-    forget(): void {
-        this.whys.clear();
+    /** Shows a record of an image that has been read. */
+    show(image: AskedImage): void {
+        const { records, facts, index } = image;
         clearTimeout(this.asking);
-    }
-
-    hear(report: WhyReport): void { this.whys.set(report.event, report); }
-
-    show(asked: Asked, index: number): void {
-        const record = asked.records.get(index), speed = asked.speeds[index] ?? 0;
+        if (!records?.count || !facts) return;
+        const record = records.get(index), speed = image.speeds[index] ?? NaN;
         this.showTexts(record, speed);
-        this.showWhy(asked, record, speed);
-        this.showBytes(asked, record);
+        this.showWhy(image, record, speed);
+        this.showBytes(image, facts, record);
     }
 
     private showTexts(record: JournalRecord, speed: number): void {
@@ -57,14 +42,13 @@ export class EventView {
         say("ask-level", `level ${levelText(record.level)}`);
         say("ask-brake", brakeText(record.brake));
         at("ask-brake").className = `lamp brake-${record.brake}`;
-        say("ask-dial-said", `${kmh(speed)} km/h, limit ${kmh(record.limit)} km/h`);
-        this.dial.setScale(scaleOf(Math.max(speed, record.limit)));
+        say("ask-dial-said", `${speedText(speed)}, limit ${kmh(record.limit)} km/h`);
+        this.dial.setScale(scaleOf(Math.max(speed || 0, record.limit)));
     }
 
-    private showWhy({ id, replays }: Asked, record: JournalRecord, speed: number): void {
-        const { event, block } = record, answer = this.whys.get(event);
+    private showWhy({ id, replays, whys }: AskedImage, record: JournalRecord, speed: number): void {
+        const { event, block } = record, answer = whys.get(event);
         this.dial.show(shownOf(speed, record.limit, record.brake, record.indications, answer?.why ?? null));
-        clearTimeout(this.asking);
         if (!answer) {
             show("ask-causes", make("li", {}, "…"));
             say("ask-limit", "");
@@ -79,7 +63,7 @@ export class EventView {
         say("ask-limit", why ? limitText(why) : "");
     }
 
-    private showBytes({ heads, bytes, facts }: Asked, record: JournalRecord): void {
+    private showBytes({ heads, bytes }: AskedImage, facts: Facts, record: JournalRecord): void {
         const head = heads.get(record.block);
         if (!head) return;
         const place = placeOf(record, head.firstEvent, facts.slots);

@@ -1,35 +1,22 @@
-// What an investigator hands on of an image: findings and records as JSON, records as CSV, and the report as HTML.
+// What an investigator hands on: findings and records of an image as JSON, CSV and a report as HTML, and what is seen
+// of all images.
 import {causeTextsOf, tripReason} from "./brief";
 import {Braking} from "./braking";
 import {Records} from "./calls";
 import {at, make, save, svg} from "./dom";
-import {JournalRecord, Replay, Why} from "./layouts";
-import {Intervention} from "./lives";
+import {AskedImage} from "./image";
+import {JournalRecord} from "./layouts";
 import {Note} from "./notes";
 import {MODES, VERDICTS} from "./texts";
 import {iso, Utc} from "./times";
 import {Seen} from "./viewer";
 
+/** What can be saved: of the image that is shown, and what the viewer shows of all. */
 export interface Findings {
-    name: string;
-    bytes: number;
-    sha256: string;
-    slots: number;
-    isWhole: boolean|null;
-    unreadable: number[];
-    replays: Replay[]|null;
-    interventions: Intervention[];
-    trips: number[];
+    image: AskedImage;
     records: Records;
-    speeds: Float64Array;
-    causes: Map<number, Why|string>;
-    braking: Braking[];
-    verdict: string[]|null;
-    notes: Note[];
-    /** What the viewer shows. */
     seen: Seen|null;
-    /** The time of day of a record by its index; null where there is none. */
-    utc: (index: number) => Utc | null
+    notes: (image: AskedImage) => Note[]
 }
 
 // The names of `etcs_lab events` (docs/reference/json.md).
@@ -60,32 +47,46 @@ function rowOf(record: JournalRecord, speed: number, utc: Utc|null): Row {
         place_cm: record.hasPlace ? record.front : null,
         uncertainty_cm: record.hasPlace ? record.uncertainty : null,
         limit_m_per_h: record.hasPlace ? record.limit : null,
-        speed_m_per_h: speed,
+        speed_m_per_h: Number.isNaN(speed) ? null : speed,
     };
 }
 
-/** A row for each record, or for those that are seen. */
-function rowsOf({ records, speeds, utc }: Findings, seen: Seen|null): Row[] {
-    const row = (n: number): Row => rowOf(records.get(n), speeds[n] ?? 0, utc(n));
-    return seen ? seen.indexes.map(row) : Array.from({ length: records.count }, (_, n) => row(n));
+/** A row for each of some records of an image, or for all. */
+function rowsOf(image: AskedImage, indexes: number[]|null = null): Row[] {
+    const { records, speeds } = image;
+    if (!records) return [];
+    const all = indexes ?? Array.from({ length: records.count }, (_, n) => n);
+    return all.map(n => rowOf(records.get(n), speeds[n] ?? NaN, image.utc(n)));
 }
 
-function imageOf({ name, bytes, sha256, slots }: Findings): object { return { name, bytes, sha256, slots }; }
+function imageOf({ name, bytes, digest, facts, identity }: AskedImage): object {
+    return { name, bytes: bytes.length, sha256: digest, slots: facts?.slots ?? 0, ...identity && { identity } };
+}
 
 /** The version of this page. */
 function build(): string { return at("version").textContent ?? ""; }
 
-/** The records, a row each. No cell is taken for a formula: all texts are keywords, and a time begins with a digit. */
-function csvOf(findings: Findings, seen: Seen|null = null): string {
+function lineOf(row: Row): string {
     const cell = (value: Row[keyof Row]): string => Array.isArray(value) ? value.join(" ") : String(value ?? "");
-    const lines = rowsOf(findings, seen).map(row => COLUMNS.map(name => cell(row[name])).join(","));
-    return [COLUMNS.join(","), ...lines].join("\r\n") + "\r\n";
+    return COLUMNS.map(name => cell(row[name])).join(",");
 }
 
-/** All findings, and the records. */
-function jsonOf(findings: Findings): string {
-    const { records, causes, trips } = findings;
-    const interventions = findings.interventions.filter(one => !one.isPowerUp).map(one => ({
+/** The records, a row each. No cell is taken for a formula: all texts are keywords, and a time begins with a digit. */
+function csvOf({ image }: Findings): string {
+    return [COLUMNS.join(","), ...rowsOf(image).map(lineOf)].join("\r\n") + "\r\n";
+}
+
+/** The records that are seen, a row each, with the SHA-256 of their image. */
+function seenCsv({ images }: Seen): string {
+    const lines = images.flatMap(
+        ({ image, indexes }) => rowsOf(image, indexes).map(row => `${image.digest},${lineOf(row)}`));
+    return [`image_sha256,${COLUMNS.join(",")}`, ...lines].join("\r\n") + "\r\n";
+}
+
+/** All findings about an image, and its records. */
+function jsonOf({ image, records, notes }: Findings): string {
+    const { counted: causes, trips, verdict } = image;
+    const interventions = image.interventions.filter(one => !one.isPowerUp).map(one => ({
         first_event: records.event(one.first),
         last_event: records.event(one.last),
         commands: one.steps.map(({ brake }) => BRAKES[brake] ?? ""),
@@ -93,11 +94,12 @@ function jsonOf(findings: Findings): string {
     }));
     return JSON.stringify({
         page: build(),
-        image: imageOf(findings),
-        verdict: findings.verdict && { status: findings.verdict.length ? NOT_WHOLE : 0, says: findings.verdict },
-        whole: findings.isWhole,
-        unreadable_blocks: findings.unreadable,
-        lives: (findings.replays ?? []).map(life => ({
+        image: imageOf(image),
+        verdict: verdict && { status: verdict.length ? NOT_WHOLE : 0, says: verdict },
+        implausible: image.implausible,
+        whole: image.isWhole,
+        unreadable_blocks: image.unreadable,
+        lives: (image.replays ?? []).map(life => ({
             life: life.life,
             first_event: life.first,
             last_event: life.last,
@@ -105,28 +107,27 @@ function jsonOf(findings: Findings): string {
         })),
         interventions,
         trips: trips.map(index => ({ event: records.event(index), cause: tripReason(causes.get(index)) })),
-        braking: findings.braking,
-        notes: findings.notes,
-        events: rowsOf(findings, null),
+        braking: image.braking,
+        notes: notes(image),
+        events: rowsOf(image),
     },
                null, 1) +
         "\n";
 }
 
-/** What the viewer shows: the records in its window that match its filter, and their notes. */
-function seenJson(findings: Findings, seen: Seen): string {
-    const { axis, from, to, filter } = seen, events = rowsOf(findings, seen),
-                                   all = new Set(events.map(row => row.event));
-    const notes = findings.notes.filter(({ event }) => all.has(event));
+/** What the viewer shows of each image: the records in its window that match its filter, and their notes. */
+function seenJson({ notes }: Findings, { axis, from, to, filter, images }: Seen): string {
     const [least, most] = [Math.round(from), Math.round(to)];
     const window = axis === "utc" ? { from: iso(least), to: iso(most) } : { from: least, to: most };
-    return JSON.stringify(
-               { page: build(), image: imageOf(findings), seen: { axis, ...window, filter }, notes, events }, null, 1) +
-        "\n";
+    const all = images.map(({ image, indexes }) => {
+        const events = rowsOf(image, indexes), numbers = new Set(events.map(row => row.event));
+        return { ...imageOf(image), notes: notes(image).filter(({ event }) => numbers.has(event)), events };
+    });
+    return JSON.stringify({ page: build(), seen: { axis, ...window, filter }, images: all }, null, 1) + "\n";
 }
 
 /** The brake commands, a row each; a pair has two columns. */
-function brakingCsv({ braking }: Findings): string {
+function brakingCsv({ image: { braking } }: Findings): string {
     const cells = (one: Braking): [string, string][] => Object.entries(one).flatMap(([name, value]) => {
         const text = (part: unknown): string => String(part ?? ""), [what, ...unit] = name.split("_");
         return Array.isArray(value)
@@ -158,7 +159,7 @@ function savePng(name: string): void {
 }
 
 /** The report as one page without a program: what is shown of the image, without what can be pressed. */
-function reportOf({ name, sha256 }: Findings): string {
+function reportOf({ image: { name, digest }, seen }: Findings): string {
     const page = document.implementation.createHTMLDocument(`${name}: report`), time = new Date().toISOString(),
           body = at("answers").cloneNode(true) as Element;
     for (const one of body.querySelectorAll("button, input, label, select, textarea, script, .scrub")) one.remove();
@@ -166,7 +167,9 @@ function reportOf({ name, sha256 }: Findings): string {
     const head = page.createElement("meta"), css = page.createElement("style"), says = page.createElement("p");
     head.setAttribute("charset", "utf-8");
     css.textContent = document.querySelector("style")?.textContent ?? "";
-    says.textContent = `${name}, SHA-256 ${sha256}. Gaknifur ${build()}. ` +
+    const others = (seen?.images ?? []).filter(({ image }) => image.digest !== digest).map(({ image }) =>
+        ` The chart also shows ${image.letter}: ${image.name}, SHA-256 ${image.digest}.`);
+    says.textContent = `${name}, SHA-256 ${digest}.${others.join("")} Gaknifur ${build()}. ` +
         `Saved at ${time}, by the clock of this computer.`;
     page.head.prepend(head);
     page.head.append(css);
@@ -177,9 +180,9 @@ function reportOf({ name, sha256 }: Findings): string {
 /** The buttons that save what is found. They do nothing where there is nothing to save yet. */
 export function offerToSave(found: () => Findings | null): void {
     const kinds: [string, string, string, (findings: Findings) => string][] = [
-        ["json", "json", "application/json", jsonOf], ["csv", "csv", "text/csv", findings => csvOf(findings)],
+        ["json", "json", "application/json", jsonOf], ["csv", "csv", "text/csv", csvOf],
         ["report", "html", "text/html", reportOf], ["braking", "braking.csv", "text/csv", brakingCsv],
-        ["seen-csv", "seen.csv", "text/csv", findings => csvOf(findings, findings.seen)],
+        ["seen-csv", "seen.csv", "text/csv", ({ seen }) => seen ? seenCsv(seen) : ""],
         [
             "seen-json", "seen.json", "application/json",
             findings => findings.seen ? seenJson(findings, findings.seen) : ""
@@ -188,10 +191,10 @@ export function offerToSave(found: () => Findings | null): void {
     for (const [kind, end, type, text] of kinds)
         at(`save-${kind}`).addEventListener("click", () => {
             const findings = found();
-            if (findings) save(`${findings.name}.${end}`, text(findings), type);
+            if (findings) save(`${findings.image.name}.${end}`, text(findings), type);
         });
     at("save-png").addEventListener("click", () => {
         const findings = found();
-        if (findings) savePng(`${findings.name}.seen`);
+        if (findings) savePng(`${findings.image.name}.seen`);
     });
 }

@@ -8,9 +8,10 @@ const PARTS = ["kind", "brake", "mode"] as const;
 type Part = typeof PARTS[number];
 
 export class Filter {
-    private signals: Signals|null = null;
     private wanted: Partial<Record<Part, number>> = {};
-    matches: Uint32Array|null = null;
+    /** Of the signals of each image how many records match before each record, and all at the end. */
+    private readonly matches = new Map<Signals, Uint32Array>();
+    private all: Signals[] = [];
 
     constructor(private readonly changed: () => void) {
         for (const part of PARTS)
@@ -25,35 +26,50 @@ export class Filter {
 
     private select(part: Part): HTMLSelectElement { return at<HTMLSelectElement>(`filter-${part}`); }
 
-    /** Offers what the records of an image have. */
-    take(signals: Signals): void {
-        this.signals = signals;
-        this.wanted = {};
-        this.reckon();
+    /** Offers what the records of some images have. A choice stays where it can be made still. */
+    take(all: Signals[]): void {
+        this.all = all;
         const names: Record<Part, (value: number) => string> = {
             kind: value => KINDS[value] ?? "",
             brake: value => BRAKES[value] ?? "",
             mode: value => MODES[value]?.[1] ?? String(value)
         };
         for (const part of PARTS) {
-            const found = [...new Set(signals[part])].sort((one, other) => one - other);
+            const found = new Set<number>(), wanted = this.wanted[part];
+            for (const signals of all)
+                for (const value of new Set(signals[part])) found.add(value);
             this.select(part).replaceChildren(make("option", { value: "" }, VIEW.any[part]),
-                ...found.map(value => make("option", { value }, names[part](value))));
+                ...[...found].sort((one, other) => one - other)
+                    .map(value => make("option", { value, selected: value === wanted }, names[part](value))));
+            if (wanted !== undefined && !found.has(wanted)) delete this.wanted[part];
+        }
+        this.reckon();
+    }
+
+    /** Each record matches again. */
+    forget(): void { this.wanted = {}; }
+
+    private reckon(): void {
+        const wanted = Object.entries(this.wanted) as [Part, number][];
+        this.matches.clear();
+        if (!wanted.length) return;
+        for (const signals of this.all) {
+            const { length } = signals.kind, matches = new Uint32Array(length + 1);
+            for (let n = 0; n < length; n++)
+                matches[n + 1] =
+                    (matches[n] ?? 0) + Number(wanted.every(([part, value]) => signals[part][n] === value));
+            this.matches.set(signals, matches);
         }
     }
 
-    /** How many records match before each record, and all at the end; null where every one does. */
-    private reckon(): void {
-        const { signals } = this, all = Object.entries(this.wanted) as [Part, number][];
-        this.matches = null;
-        if (!signals || !all.length) return;
-        const { length } = signals.kind, matches = this.matches = new Uint32Array(length + 1);
-        for (let n = 0; n < length; n++)
-            matches[n + 1] = (matches[n] ?? 0) + Number(all.every(([part, value]) => signals[part][n] === value));
-    }
+    /** How many records match before each record, and all at the end; null where each matches. */
+    matchesOf(signals: Signals): Uint32Array|null { return this.matches.get(signals) ?? null; }
 
     /** Whether the event of a record matches. */
-    isMatch(n: number): boolean { return !this.matches || this.matches[n + 1] !== this.matches[n]; }
+    isMatch(signals: Signals, n: number): boolean {
+        const matches = this.matches.get(signals);
+        return !matches || matches[n + 1] !== matches[n];
+    }
 
     /** What is chosen, by the names of the parts. */
     get chosen(): Record<string, string> {

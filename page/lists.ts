@@ -42,7 +42,7 @@ export class Lists {
     showInterventions(records: Records, interventions: Intervention[], speeds: Float64Array, trips: number[],
         causes: Map<number, Why|string>): void {
         const all = interventions.filter(one => !one.isPowerUp), rows = all.slice(-MOST_SHOWN).map(one => {
-            const texts = interventionTexts(records, one, speeds[one.first] ?? 0, trips, causes);
+            const texts = interventionTexts(records, one, speeds[one.first] ?? NaN, trips, causes);
             return this.linked(row(...texts, ...this.dayCells(records, one.first)), records.event(one.first));
         });
         const heads = ["events", "place", "time", "speed", "command", "causes", ...this.dayHeads()];

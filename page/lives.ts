@@ -79,11 +79,11 @@ export function askedOf(records: Records, {first, last}: Intervention): number[]
     return [...all.filter(n => n === first || !isSame(n)).slice(0, MOST_ASKED - 1), last];
 }
 
-/** Of each record the speed of the last reading of its life, 0 before one. */
+/** Of each record the speed of the last reading of its life, 0 from a power-up on; NaN where there is neither. */
 export function speedsOf(records: Records, lives: LifeRange[]): Float64Array {
     const speeds = new Float64Array(records.count);
     for (const { from, end } of lives) {
-        let speed = 0;
+        let speed = records.kind(from) === POWER_UP ? 0 : NaN;
         for (let n = from; n < end; n++) {
             if (records.kind(n) === ODOMETER) speed = records.readSpeed(n);
             speeds[n] = speed;

@@ -1,13 +1,17 @@
 // What the page and its worker say to each other.
 import {Braking} from "./braking";
 import {Block, Facts, Replay, Slot, Why} from "./layouts";
+import {Grammar} from "./grammar";
 import {Intervention, LifeRange} from "./lives";
+import {Finding} from "./plausibility";
 import {Signals} from "./signals";
 
 /** The module, before all other orders. */
 export interface ModuleOrder {
     kind: "module";
-    module: WebAssembly.Module
+    module: WebAssembly.Module;
+    /** By which groups of telegrams are read. */
+    grammar: Grammar
 }
 /** Reads an image. */
 export interface ImageOrder {
@@ -17,7 +21,12 @@ export interface ImageOrder {
     /** The slots that are taken for those of the first sector; null where the first sector is read. */
     slots: number|null
 }
-/** Asks why an event of the image that was read last was answered so. */
+/** Forgets an image. */
+export interface DropOrder {
+    kind: "drop";
+    id: number
+}
+/** Asks why an event of an image that has been read was answered so. */
 export interface WhyOrder {
     kind: "why";
     id: number;
@@ -32,7 +41,7 @@ export interface OnceOrder {
     block: number;
     event: number
 }
-export type Order = ModuleOrder|ImageOrder|WhyOrder|OnceOrder;
+export type Order = ModuleOrder|ImageOrder|DropOrder|WhyOrder|OnceOrder;
 
 /** The bytes of an image, and their SHA-256, taken before anything reads them. */
 export interface BytesReport {
@@ -63,6 +72,11 @@ export interface BrakingReport {
     kind: "braking";
     id: number;
     rows: Braking[]
+}
+export interface ImplausibleReport {
+    kind: "implausible";
+    id: number;
+    findings: Finding[]
 }
 export interface SlotsReport {
     kind: "slots";
@@ -109,8 +123,8 @@ export interface FailedReport {
     id: number;
     says: string
 }
-export type Report = BytesReport|FactsReport|RecordsReport|BrakingReport|SlotsReport|ReplayReport|CausesReport|
-    WhyReport|ProgressReport|DoneReport|FailedReport;
+export type Report = BytesReport|FactsReport|RecordsReport|BrakingReport|ImplausibleReport|SlotsReport|ReplayReport|
+    CausesReport|WhyReport|ProgressReport|DoneReport|FailedReport;
 
 /** The block after the newest, which was being written: its number, life and events. */
 export interface Unwritten {

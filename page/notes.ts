@@ -23,6 +23,8 @@ function kept(digest: string): Map<number, string> {
 
 export class Notes {
     private digest = "";
+    /** The notes of each image that is shown, or was. */
+    private readonly images = new Map<string, Map<number, string>>();
     private event = 0;
     private notes = new Map<number, string>();
     private readonly text = at<HTMLTextAreaElement>("note");
@@ -32,11 +34,12 @@ export class Notes {
         this.text.addEventListener("input", () => this.write(this.text.value));
     }
 
-    /** Another image is asked. */
+    /** Another image is shown. */
     take(digest: string): void {
         this.digest = digest;
         say("notes-error", "");
         this.notes = kept(digest);
+        this.images.set(digest, this.notes);
         this.list();
     }
 
@@ -61,7 +64,7 @@ export class Notes {
     }
 
     private list(): void {
-        const lines = this.all.map(({ event, text }) => {
+        const lines = this.of(this.digest).map(({ event, text }) => {
             const link =
                 make("a", { href: `#event=${event}`, click: () => this.choose(event) }, `event ${count(event)}`);
             return make("li", {}, link, `: ${text}`);
@@ -69,8 +72,10 @@ export class Notes {
         show("notes", ...lines.length ? lines : [make("li", {}, NOTES.none)]);
     }
 
-    /** All notes, in the order of their events. */
-    get all(): Note[] {
-        return [...this.notes].sort(([one], [other]) => one - other).map(([event, text]) => ({ event, text }));
+    /** All notes on an image, in the order of their events. */
+    of(digest: string): Note[] {
+        return [...this.images.get(digest) ?? []]
+            .sort(([one], [other]) => one - other)
+            .map(([event, text]) => ({ event, text }));
     }
 }

@@ -50,12 +50,23 @@ export class Reader {
     isKnown(packet: number): boolean { return String(packet) in this.grammar.layouts; }
     hasScale(packet: number): boolean { return this.isKnown(packet) && !this.grammar.withoutScale.includes(packet); }
 
-    read(bits: string): Reading {
-        const { header, endMark } = this.grammar, packets: ReadPacket[] = [];
+    /** The variables of a header, as far as there are bits. */
+    header(bits: string): Field[] {
         const it = new Bits(this.grammar, bits, 0, bits.length), found: Field[] = [];
         try {
-            for (const [name] of header) found.push(it.take(name));
-            for (let at = it.at;;) {
+            for (const [name] of this.grammar.header) found.push(it.take(name));
+        } catch (error) {
+            if (!(error instanceof Wrong)) throw error;
+        }
+        return found;
+    }
+
+    read(bits: string): Reading {
+        const { header, endMark } = this.grammar, packets: ReadPacket[] = [], found = this.header(bits);
+        const last = found[found.length - 1];
+        if (found.length < header.length || !last) return { bits, header: found, packets, end: null };
+        try {
+            for (let at = last.at + last.width;;) {
                 if (Number(new Bits(this.grammar, bits, at, bits.length).take("NID_PACKET").number) === endMark)
                     return { bits, header: found, packets, end: at };
                 const packet = this.packet(bits, at);

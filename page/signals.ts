@@ -1,5 +1,5 @@
-// The signals of an image as arrays with a value for each record, and the axes over which they are drawn: the lives one
-// after the other, or by the time of day.
+// The signals of images as arrays with a value for each record, and the axes over which they are drawn: the lives one
+// after the other, those of one number at one place, or by the time of day.
 import {Records} from "./calls";
 import {BYTES, Reader} from "./layouts";
 import {LifeRange} from "./lives";
@@ -11,7 +11,7 @@ export const NOTHING = 255, SEVERAL = 254;
 export interface Signals {
     moment: Float64Array;
     place: Float64Array;
-    /** In m/h; a limit that a record lacks is NaN. */
+    /** In m/h; a speed that isn't known, or a limit that a record lacks, is NaN. */
     speed: Float64Array;
     limit: Float64Array;
     kind: Uint8Array;
@@ -48,7 +48,7 @@ export function signalsOf(bytes: Uint8Array, records: Records, speed: Float64Arr
 }
 
 export type AxisKind = "moment"|"place"|"utc";
-/** Where a life is on an axis: its values with an offset, from low to high. */
+/** Where a life of an image is on its axis: its values with an offset, from low to high. */
 export interface Span {
     life: LifeRange;
     offset: number;
@@ -62,9 +62,10 @@ export interface Axis {
     /** The place of each record on the axis. */
     x: Float64Array;
     spans: Span[];
+    /** The ends of what all images have. */
     low: number;
     high: number;
-    /** Lives that have no place on the axis. */
+    /** Lives of the image that have no place on the axis. */
     leftOut: number;
     /** What is one on its labels. */
     per: number
@@ -83,34 +84,65 @@ function spanOf(values: Float64Array, life: LifeRange): Span {
     return { life, offset: 0, low, high, isSorted };
 }
 
-/** The axis of a kind. Lives stand one after the other with gaps, or by the time of day of their first record. */
-export function axisOf(kind: AxisKind, signals: Signals, lives: LifeRange[], times: Times|null): Axis {
-    const values = kind === "place" ? signals.place : signals.moment, per = kind === "place" ? 100 : 1000;
-    let spans = lives.map(life => spanOf(values, life));
-    if (kind === "utc") {
-        const utc = ({ life, low }: Span): number|null => times?.utc(life.number, low)?.utc ?? null;
-        spans = spans.filter(span => utc(span) !== null);
-        for (const span of spans) span.offset = (utc(span) ?? 0) - span.low;
-    } else {
-        const all = spans.reduce((sum, { low, high }) => sum + high - low, 0);
-        const gap = Math.max(per, GAPS * all) / Math.max(1, spans.length);
-        let next = spans[0]?.low ?? 0;
-        for (const span of spans) {
-            span.offset = next - span.low;
-            next += span.high - span.low + gap;
-        }
+/** The signals of an image, with its lives and what gives their time of day. */
+export interface Source {
+    signals: Signals;
+    lives: LifeRange[];
+    times: Times|null
+}
+
+/** Moves lives to one place for each number of a life, one number after the other with gaps. */
+function placeByNumber(spans: Span[], per: number): void {
+    const ranges = new Map<number, { low: number; high: number; offset: number }>();
+    for (const { life, low, high } of spans) {
+        const before = ranges.get(life.number) ?? { low, high, offset: 0 };
+        ranges.set(
+            life.number, { low: Math.min(low, before.low), high: Math.max(high, before.high), offset: 0 });
     }
-    const x = new Float64Array(values.length).fill(NaN);
-    let low = Infinity, high = -Infinity;
-    for (const span of spans) {
+    const sorted = [...ranges].sort(([one], [other]) => one - other).map(([, range]) => range);
+    const all = sorted.reduce((sum, { low, high }) => sum + high - low, 0);
+    const gap = Math.max(per, GAPS * all) / Math.max(1, sorted.length);
+    let next = sorted[0]?.low ?? 0;
+    for (const range of sorted) {
+        range.offset = next - range.low;
+        next += range.high - range.low + gap;
+    }
+    for (const span of spans) span.offset = ranges.get(span.life.number)?.offset ?? 0;
+}
+
+/** Moves lives to the time of day of their first record; those without one are left out. */
+function placeByUtc(spans: Span[], times: Times|null): Span[] {
+    return spans.filter(span => {
+        const utc = times?.utc(span.life.number, span.low)?.utc;
+        if (utc !== undefined) span.offset = utc - span.low;
+        return utc !== undefined;
+    });
+}
+
+/**
+ * The axes of some images, on which a place means the same: a moment or a place of the lives of one number, or a time
+ * of day.
+ */
+export function axesOf(kind: AxisKind, sources: Source[]): Axis[] {
+    const per = kind === "place" ? 100 : 1000;
+    const values = sources.map(({ signals }) => kind === "place" ? signals.place : signals.moment);
+    let spans = sources.map(({ lives }, n) => lives.map(life => spanOf(values[n] ?? new Float64Array(), life)));
+    if (kind === "utc") spans = spans.map((all, n) => placeByUtc(all, sources[n]?.times ?? null));
+    else placeByNumber(spans.flat(), per);
+    for (const span of spans.flat()) {
         span.low += span.offset;
         span.high += span.offset;
-        low = Math.min(low, span.low);
-        high = Math.max(high, span.high);
-        for (let n = span.life.from; n < span.life.end; n++) x[n] = (values[n] ?? 0) + span.offset;
     }
+    let [low, high] = [Infinity, -Infinity];
+    for (const span of spans.flat()) [low, high] = [Math.min(low, span.low), Math.max(high, span.high)];
     if (low > high) low = high = 0;
-    return { kind, x, spans, low, high: Math.max(high, low + per), leftOut: lives.length - spans.length, per };
+    return sources.map(({ lives }, n) => {
+        const own = values[n] ?? new Float64Array(), x = new Float64Array(own.length).fill(NaN), of = spans[n] ?? [];
+        for (const { life, offset } of of)
+            for (let at = life.from; at < life.end; at++) x[at] = (own[at] ?? 0) + offset;
+        const leftOut = lives.length - of.length;
+        return { kind, x, spans: of, low, high: Math.max(high, low + per), leftOut, per };
+    });
 }
 
 /** The first index from which on the axis has at least a value. */
@@ -149,4 +181,12 @@ export function nearest(axis: Axis, place: number): number|null {
         }
     }
     return best;
+}
+
+/** The last record up to a place of the axis, of a life that covers it; null where there is none. */
+export function heldAt(axis: Axis, place: number): number|null {
+    const span = [...axis.spans].reverse().find(({ low, high }) => low <= place && place <= high);
+    if (!span) return null;
+    if (!span.isSorted) return nearest({...axis, spans: [span] }, place);
+    return Math.max(span.life.from, lowerBound(axis.x, span.life.from, span.life.end, place + 1e-9) - 1);
 }

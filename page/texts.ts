@@ -168,8 +168,18 @@ export const SAY = {
         `${name} isn't read: it has more than 512 MB, and the page reads images up to that size.`,
     tooSmall: (name: string): string => `${name} isn't an image: it has less than one sector of 512 bytes.`,
     noImage: (name: string, why: string): string => `${name}: ${why}.`,
-    oneFile: "Drop one image at a time, with its marks if there are some.",
-    noImageYet: "Choose the image first: marks belong to an image.",
+    noImageYet: "Choose the image first: marks and an identity belong to an image.",
+    whose: (name: string): string =>
+        `${name} isn't used: no image that is shown has this name without its ending. Drop it with its image.`,
+    tooMany: (name: string, most: number): string =>
+        `${name} isn't read: ${most} images are shown already. Remove one first.`,
+    tooMuch: (name: string): string =>
+        `${name} isn't read: together with the other images it has more than 512 MB. Remove one first.`,
+    same: (name: string, letter: string, other: string): string =>
+        `${name} isn't shown again: it has the SHA-256 of ${letter}, ${other}.`,
+    noIdentity: (name: string, why: string): string => `${name} isn't used: ${why}.`,
+    strangers: (name: string, says: string, letter: string, other: string): string =>
+        `${name} is of ${says}, and ${letter} of ${other}.`,
     tooManyMarks: (name: string): string =>
         `${name} isn't read: it has more than 16 MB, and the page reads marks up to that size.`,
     bySlots: (slots: number): string => `By its size it could have ${slots.toLocaleString("en")} slots. ` +
@@ -195,6 +205,7 @@ export const SAY = {
     differs: "The kernel would have answered otherwise.",
     authentic: "Agreement means that the journal is consistent with this kernel, and not that it is authentic.",
     noRecord: "No record can be read.",
+    unknown: "unknown",
     ran: (m: string): string => `Without power the train ran on for ${m}, and stands.`,
     powerOff: "Power is off. Say what is known of movements, and power up.",
     kept: "What the unit kept",
@@ -208,6 +219,7 @@ export const BRIEF = {
     noReplay: "its life can't be run again",
     causeNotKnown: (reason: string): string => `cause not known: ${reason}`,
     none: "none",
+    unknownSpeed: "at an unknown speed",
     noIntervention: "none but what each power-up commands",
     earlier: (trips: number): string => `${trips} earlier one${trips === 1 ? "" : "s"}`,
     notKnown: "not known: the newest block can't be read",

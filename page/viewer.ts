@@ -1,12 +1,12 @@
-// The signals of all lives of an image on one axis, with zoom, pan and one cursor. Each change is drawn with the next
+// The signals of all lives of the images on one axis, with zoom, pan and one cursor. Each change is drawn with the next
 // frame.
 import {Chunks, chunksOf, columnsOf} from "./columns";
-import {at, make, say, svg} from "./dom";
-import {BOTTOM, HEIGHT, LEFT, paint, plotWidth, TOP} from "./drawing";
+import {at, make, say, show, svg} from "./dom";
+import {Layer as Drawn, layoutOf, LEFT, paint, plotWidth, TOP} from "./drawing";
 import {Filter} from "./filter";
-import {Intervention, LifeRange} from "./lives";
-import {brakeText, count, kmh, levelText, metres, modeName, seconds} from "./shown";
-import {Axis, AxisKind, axisOf, nearest, Signals} from "./signals";
+import {AskedImage} from "./image";
+import {brakeText, count, kmh, levelText, metres, modeName, seconds, speedText} from "./shown";
+import {axesOf, Axis, AxisKind, heldAt, nearest, Signals, Source} from "./signals";
 import {DAY} from "./texts";
 import {iso, Times} from "./times";
 import {VIEW} from "./wording";
@@ -14,35 +14,41 @@ import {VIEW} from "./wording";
 const KINDS: AxisKind[] = ["moment", "place", "utc"], ZOOM = 1.25, PAN = 0.1, CLICK = 4, NARROWEST = 0.02, PAD = 0.01,
              FAR = 1e9;
 
-/** What is seen: the records of a window that match a filter. */
+/** What is seen: the records of a window that match a filter, of each image. */
 export interface Seen {
     axis: AxisKind;
     from: number;
     to: number;
     filter: Record<string, string>;
-    indexes: number[]
+    images: { image: AskedImage; indexes: number[] }[]
+}
+/** An image on the axis. */
+interface Layer {
+    image: AskedImage;
+    signals: Signals;
+    axis: Axis;
+    chunks: Chunks;
+    commands: { index: number; brake: number }[]
 }
 
 export class Viewer {
     readonly filter = new Filter(() => this.draw());
-    private signals: Signals|null = null;
-    private lives: LifeRange[] = [];
-    private commands: { index: number; brake: number }[] = [];
-    private times: Times|null = null;
-    private axis: Axis|null = null;
-    private chunks: Chunks|null = null;
+    private images: AskedImage[] = [];
+    private layers: Layer[] = [];
+    /** The image whose record the cursor is at. */
+    private chosen: AskedImage|null = null;
     private from = 0;
     private to = 1;
-    private index = 0;
     private frame = 0;
     /** The places of pointers that are pressed, and how far the first of them moved. */
     private readonly pointers = new Map<number, number>();
     private moved = 0;
     private readonly root = at("viewer-chart") as unknown as SVGSVGElement;
-    private readonly cursor = svg("line", { y1: TOP, y2: BOTTOM, class: "cursor" });
+    private readonly cursor = svg("line", { y1: TOP, class: "cursor" });
 
-    /** `pick` chooses a record; `notes` are those that have one. */
-    constructor(private readonly pick: (index: number) => void, private readonly notes: () => number[]) {
+    /** `pick` chooses a record; `notes` are those of an image that have one. */
+    constructor(private readonly pick: (image: AskedImage, index: number) => void,
+        private readonly notes: (image: AskedImage) => number[]) {
         const kind = at<HTMLSelectElement>("viewer-axis");
         kind.addEventListener("change", () => this.setAxis(kind.value as AxisKind));
         const acts: [string, () => void][] = [
@@ -59,43 +65,43 @@ export class Viewer {
         new ResizeObserver(() => this.draw()).observe(this.root);
     }
 
-    /** Another image is asked. */
-    forget(): void {
-        this.signals = this.axis = this.times = null;
-        this.root.replaceChildren();
-        say("viewer-said", "");
-    }
-
-    take(signals: Signals, lives: LifeRange[], interventions: Intervention[]): void {
-        this.signals = signals;
-        this.lives = lives;
-        this.commands = interventions.filter(one => !one.isPowerUp).flatMap(one => one.steps);
-        this.filter.take(signals);
-        this.setTimes(this.times);
-    }
-
-    /** The marks of the time of day, or that there are none. */
-    setTimes(times: Times|null): void {
-        this.times = times;
-        const { signals, lives } = this, kind = at<HTMLSelectElement>("viewer-axis");
-        const isTimed = !!times && lives.some(life => times.utc(life.number, signals?.moment[life.from] ?? 0));
-        const kinds = isTimed ? KINDS : KINDS.slice(0, 2), before = kind.value as AxisKind;
+    /** Shows the images that are read, by UTC where marks give it for all of them. */
+    take(images: AskedImage[]): void {
+        this.images = images.filter(({ signals }) => signals);
+        this.layers = [];
+        if (!this.images.length) {
+            this.filter.forget();
+            this.root.replaceChildren();
+            for (const name of ["viewer-said", "viewer-at"]) say(name, "");
+            return;
+        }
+        this.filter.take(this.images.flatMap(({ signals }) => signals ?? []));
+        const kind = at<HTMLSelectElement>("viewer-axis"), before = kind.value as AxisKind;
+        const timed = this.images.map(isTimed), kinds = timed.includes(true) ? KINDS : KINDS.slice(0, 2);
         kind.replaceChildren(...kinds.map(value => make("option", { value }, VIEW.axes[value])));
-        this.setAxis(isTimed ? "utc" : kinds.includes(before) && before !== "utc" ? before : "moment");
+        const isUtc = timed.every(one => one);
+        this.setAxis(isUtc ? "utc" : kinds.includes(before) && before !== "utc" ? before : "moment");
     }
 
     private setAxis(kind: AxisKind): void {
-        const { signals, lives, times } = this;
         at<HTMLSelectElement>("viewer-axis").value = kind;
-        this.axis = signals && axisOf(kind, signals, lives, times);
-        this.chunks = signals && this.axis && chunksOf(signals, this.axis);
+        const axes = axesOf(kind, this.images.flatMap(image => image.signals ? sourceOf(image, image.signals) : []));
+        this.layers = this.images.flatMap((image, n) => {
+            const { signals, interventions } = image, axis = axes[n];
+            if (!signals || !axis) return [];
+            const commands = interventions.filter(one => !one.isPowerUp).flatMap(one => one.steps);
+            return { image, signals, axis, chunks: chunksOf(signals, axis), commands };
+        });
         this.showAll();
     }
+
+    /** The layer of the image that is chosen. */
+    private get layer(): Layer|null { return this.layers.find(({ image }) => image === this.chosen) ?? null; }
 
     // ---- the window
 
     private setWindow(from: number, width: number): void {
-        const { axis } = this;
+        const axis = this.layers[0]?.axis;
         if (!axis) return;
         const all = axis.high - axis.low, pad = PAD * all;
         const seen = Math.min(all + 2 * pad, Math.max(axis.per * NARROWEST, width));
@@ -105,12 +111,13 @@ export class Viewer {
     }
 
     showAll(): void {
-        const { axis } = this;
+        const axis = this.layers[0]?.axis;
         if (axis) this.setWindow(axis.low - PAD * (axis.high - axis.low), (1 + 2 * PAD) * (axis.high - axis.low));
     }
 
     private showLife(): void {
-        const span = this.axis?.spans.find(({ life }) => life.from <= this.index && this.index < life.end);
+        const { layer } = this, index = layer?.image.index ?? 0;
+        const span = layer?.axis.spans.find(({ life }) => life.from <= index && index < life.end);
         if (span) this.setWindow(span.low, span.high - span.low);
     }
 
@@ -122,13 +129,16 @@ export class Viewer {
     /** Moves the window by a part of its width. */
     pan(part: number): void { this.setWindow(this.from + part * (this.to - this.from), this.to - this.from); }
 
-    /** The cursor goes to a record; the window follows where that is outside. */
-    choose(index: number): void {
-        this.index = index;
-        const x = this.axis?.x[index] ?? NaN, half = (this.to - this.from) / 2;
+    /** The cursor goes to the chosen record of an image; the window follows where that is outside. */
+    choose(image: AskedImage): void {
+        this.chosen = image;
+        const x = this.place, half = (this.to - this.from) / 2;
         if (x < this.from || x > this.to) this.setWindow(x - half, 2 * half);
         this.moveCursor();
     }
+
+    /** Where the cursor is; NaN where its record has no place on the axis. */
+    private get place(): number { return this.layer?.axis.x[this.chosen?.index ?? 0] ?? NaN; }
 
     // ---- pointers and keys
 
@@ -139,7 +149,8 @@ export class Viewer {
     }
 
     private roll(event: WheelEvent): void {
-        const isWhole = !!this.axis && this.to - this.from >= (1 + 1.9 * PAD) * (this.axis.high - this.axis.low);
+        const axis = this.layers[0]?.axis;
+        const isWhole = !!axis && this.to - this.from >= (1 + 1.9 * PAD) * (axis.high - axis.low);
         if (isWhole && event.deltaY > 0) return;  // (the page scrolls)
         event.preventDefault();
         if (Math.abs(event.deltaX) > Math.abs(event.deltaY)) this.pan(event.deltaX / 600);
@@ -172,8 +183,16 @@ export class Viewer {
         const isOne = this.pointers.size === 1;
         if (!this.pointers.delete(event.pointerId) || !isOne || event.type !== "pointerup" || this.moved > CLICK)
             return;
-        const index = this.axis && nearest(this.axis, this.placeOf(event));
-        if (index !== null) this.pick(index);
+        const layer = this.layerAt(event) ?? this.layer ?? this.layers[0];
+        const index = layer ? nearest(layer.axis, this.placeOf(event)) : null;
+        if (layer && index !== null) this.pick(layer.image, index);
+    }
+
+    /** The image in whose lanes a pointer is. */
+    private layerAt({ clientY }: { clientY: number }): Layer|undefined {
+        const box = this.root.getBoundingClientRect(), { height } = this.root.viewBox.baseVal;
+        const y = (clientY - box.top) * height / (box.height || 1), { lanes, bottom } = layoutOf(this.layers.length);
+        return this.layers.find((_, n) => y >= (lanes[n] ?? Infinity) && y < (lanes[n + 1] ?? bottom));
     }
 
     private press(event: KeyboardEvent): void {
@@ -203,77 +222,102 @@ export class Viewer {
     drawNow(): void {
         cancelAnimationFrame(this.frame);
         this.frame = 0;
-        const { signals, axis, chunks, from, to, commands, times } = this;
-        if (!signals || !axis || !chunks) return;
-        const width = Math.min(1600, Math.max(300, this.root.clientWidth || 760));
-        const columns = columnsOf(signals, axis, chunks, from, to, plotWidth(width), this.filter.matches);
-        const labels: Record<AxisKind, (life: number, value: number) => string> = {
-            moment: (_, ms) => (ms / 1000).toLocaleString("en", { maximumFractionDigits: 3 }),
-            place: (_, cm) => (cm / 100).toLocaleString("en"),
-            utc: (life, ms) => utcLabel(times, life, Math.round(ms))
-        };
-        const unit = axis.kind === "utc" ? this.utcUnit() : VIEW.units[axis.kind];
-        this.root.setAttribute("viewBox", `0 0 ${width} ${HEIGHT}`);
-        this.root.replaceChildren(svg("title", {}, at("charts-title").textContent ?? ""), ...paint({
+        const { layers, from, to, filter } = this, kind = layers[0]?.axis.kind;
+        if (!kind) return;
+        const width = Math.min(1600, Math.max(300, this.root.clientWidth || 760)), { height } = layoutOf(layers.length);
+        const drawn = layers.map(({ image, signals, axis, chunks, commands }): Drawn => ({
+            letter: image.letter,
+            name: image.name,
+            colour: layers.length > 1 ? image.place : 0,
             signals,
             axis,
-            from,
-            to,
-            width,
-            columns,
+            columns: columnsOf(signals, axis, chunks, from, to, plotWidth(width), filter.matchesOf(signals)),
             commands,
-            notes: this.notes(),
-            label: labels[axis.kind],
-            unit
-        }),
-            this.cursor);
+            notes: this.notes(image),
+            label: LABELS[kind](image.times)
+        }));
+        const unit = kind === "utc" ? this.utcUnit() : VIEW.units[kind];
+        this.root.setAttribute("viewBox", `0 0 ${width} ${height}`);
+        this.root.replaceChildren(svg("title", {}, at("charts-title").textContent ?? ""),
+            ...paint({ layers: drawn, from, to, width, unit }), this.cursor);
         this.moveCursor();
-        const left = axis.leftOut ? VIEW.notTimed(axis.leftOut) : "";
-        say("viewer-said", VIEW.seen(count(columns.count), count(axis.x.length), count(columns.matches)) + left);
+        const sum = (of: (one: Drawn) => number): string => count(drawn.reduce((all, one) => all + of(one), 0));
+        const left = layers.reduce((all, { axis }) => all + axis.leftOut, 0);
+        say("viewer-said",
+            VIEW.seen(sum(one => one.columns.count), sum(one => one.axis.x.length), sum(one => one.columns.matches)) +
+                (left ? VIEW.notTimed(left) : ""));
     }
 
     private utcUnit(): string {
-        const span = this.axis?.spans.find(({ high }) => high >= this.from), { life, low = 0, offset = 0 } = span ?? {};
-        const utc = life && this.times?.utc(life.number, Math.max(low, this.from) - offset);
+        const all = this.layers.flatMap(
+            ({ image, axis }) => axis.spans.filter(({ high }) => high >= this.from).map(span => ({ image, span })));
+        const first = all.reduce((one, other) => other.span.low < one.span.low ? other : one, all[0] as typeof all[0]);
+        if (!first) return DAY.axis("");
+        const { image, span: { life, low, offset } } = first;
+        const utc = image.times?.utc(life.number, Math.round(Math.max(low, this.from) - offset));
         return DAY.axis(utc ? iso(utc.utc).slice(0, 10) : "");
     }
 
     private moveCursor(): void {
-        if (this.signals) say("viewer-at", cursorText(this.signals, this.index));
-        const x = this.axis?.x[this.index] ?? NaN, isSeen = x >= this.from && x <= this.to;
+        const { place: x, layers, chosen } = this, isSeen = x >= this.from && x <= this.to;
+        const says = layers.map(({ image, signals, axis }) => {
+            const index = image === chosen ? image.index : heldAt(axis, x), { letter } = image;
+            if (layers.length === 1) return cursorText(signals, index ?? 0);
+            if (index === null) return VIEW.nothingAt(letter);
+            return VIEW.ofImage(letter, count(image.records?.event(index) ?? 0), cursorText(signals, index));
+        });
+        show("viewer-at", ...says.map(text => make("p", {}, text)));
         const { width } = this.root.viewBox.baseVal;
         this.cursor.setAttribute("visibility", isSeen ? "visible" : "hidden");
         if (!isSeen) return;
         const at = LEFT + plotWidth(width) * (x - this.from) / (this.to - this.from);
         for (const end of ["x1", "x2"]) this.cursor.setAttribute(end, at.toFixed(1));
+        this.cursor.setAttribute("y2", String(layoutOf(layers.length).bottom));
     }
 
-    /** The next record before or after one that matches the filter; null where there is none. */
-    next(index: number, by: 1|- 1): number|null {
-        const all = this.signals?.kind.length ?? 0;
-        for (let n = index + by; n >= 0 && n < all; n += by)
-            if (this.filter.isMatch(n)) return n;
+    /** The next record of an image before or after one that matches the filter; null where there is none. */
+    next({ signals }: AskedImage, index: number, by: 1|- 1): number|null {
+        const all = signals?.kind.length ?? 0;
+        for (let n = index + by; signals && n >= 0 && n < all; n += by)
+            if (this.filter.isMatch(signals, n)) return n;
         return null;
     }
 
     /** What is seen; null where there is nothing. */
     get seen(): Seen|null {
-        const { axis, from, to, filter } = this;
+        const { layers, from, to, filter } = this, axis = layers[0]?.axis.kind;
         if (!axis) return null;
-        const indexes: number[] = [];
-        axis.x.forEach((x, n) => {
-            if (x >= from && x <= to && filter.isMatch(n)) indexes.push(n);
+        const images = layers.map(({ image, signals, axis: { x: all } }) => {
+            const indexes: number[] = [];
+            all.forEach((x, n) => {
+                if (x >= from && x <= to && filter.isMatch(signals, n)) indexes.push(n);
+            });
+            return { image, indexes };
         });
-        return { axis: axis.kind, from, to, filter: filter.chosen, indexes };
+        return { axis, from, to, filter: filter.chosen, images };
     }
 }
+
+/** Whether marks give the time of day of a life of an image. */
+function isTimed({ lives, times, signals }: AskedImage): boolean {
+    return !!times && lives.some(life => times.utc(life.number, signals?.moment[life.from] ?? 0));
+}
+
+function sourceOf({ lives, times }: AskedImage, signals: Signals): Source { return { signals, lives, times }; }
 
 /** All signals at a record. */
 function cursorText({ moment, place, speed, limit, brake, mode, level }: Signals, n: number): string {
     const allowed = limit[n] ?? NaN, limitText = Number.isNaN(allowed) ? VIEW.noLimit : `${kmh(allowed)} km/h`;
-    return VIEW.cursor(kmh(speed[n] ?? 0), limitText, brakeText(brake[n] ?? 0), modeName(mode[n] ?? 0),
+    return VIEW.cursor(speedText(speed[n] ?? NaN), limitText, brakeText(brake[n] ?? 0), modeName(mode[n] ?? 0),
         levelText(level[n] ?? 0), metres(place[n] ?? 0), seconds(moment[n] ?? 0));
 }
+
+/** What stands at a place of an axis. */
+const LABELS: Record<AxisKind, (times: Times|null) => (life: number, value: number) => string> = {
+    moment: () => (_, ms) => (ms / 1000).toLocaleString("en", { maximumFractionDigits: 3 }),
+    place: () => (_, cm) => (cm / 100).toLocaleString("en"),
+    utc: times => (life, ms) => utcLabel(times, life, Math.round(ms))
+};
 
 /** A moment of a life as a time of day. */
 function utcLabel(times: Times|null, life: number, moment: number): string {

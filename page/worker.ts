@@ -1,23 +1,27 @@
-// Reads an image apart from the page, so that the page never waits: facts, records, slots, replays and causes, in this
-// order.
+// Reads images apart from the page, so that the page never waits: facts, records, what is implausible, slots, replays
+// and causes, in this order.
 import {brakingOf} from "./braking";
 import {AT_ONCE, Calls, END, Held, OK, Records} from "./calls";
+import {Grammar} from "./grammar";
 import {hexOf} from "./hex";
 import {Block, BYTES, Facts, Replay, SECTOR, Slot, Why} from "./layouts";
 import {askedOf, Intervention, interventionsOf, lastOf, livesOf, speedsOf, tripsOf} from "./lives";
 import {Head, Order, Report, Unwritten} from "./messages";
+import {groupsBy, Judge} from "./plausibility";
 import {signalsOf} from "./signals";
 import {SAY} from "./texts";
 import {isWhole} from "./whole";
 
 const send = (report: Report, transfer: Transferable[] = []): void =>
     (postMessage as (message: Report, transfer: Transferable[]) => void)(report, transfer);
-const EACH_MS = 50, UNWRITTEN = 5, VERSION = 2;
+const EACH_MS = 50, UNWRITTEN = 5, VERSION = 2, JUDGED = 1024;
 const channel = new MessageChannel();
 let calls: Promise<Calls>|null = null;
-let image: { id: number; held: Held }|null = null;
-/** The image that was asked for last. */
-let newest = 0;
+let grammar: Grammar|null = null;
+/** The images that are asked for, and those of them that the memory holds. */
+const wanted = new Set<number>(), held = new Map<number, Held>();
+/** Images are read one after the other. */
+let reading: Promise<void> = Promise.resolve();
 
 interface Read {
     records: Records;
@@ -34,17 +38,17 @@ function pause(): Promise<void> {
     });
 }
 
-/** Works in short pieces, each of so many, with progress, as long as the image is the one that is asked for. */
+/** Works in short pieces, each of so many, with progress, as long as the image is asked for. */
 async function pieces(
     id: number, what: string, all: number, work: (done: number) => boolean, each = 1): Promise<boolean> {
     let begun = Date.now();
-    for (let done = 0; image?.id === id && work(done); done++) {
+    for (let done = 0; wanted.has(id) && work(done); done++) {
         if (Date.now() - begun < EACH_MS) continue;
         send({ kind: "progress", id, what, done: each * done, all });
         await pause();
         begun = Date.now();
     }
-    return image?.id === id;
+    return wanted.has(id);
 }
 
 async function readRecords(calls: Calls, id: number, held: Held): Promise<Read|null> {
@@ -75,7 +79,19 @@ async function readRecords(calls: Calls, id: number, held: Held): Promise<Read|n
     send({ kind: "records", id, status, bytes: bytes.buffer, unreadable, lives, speeds, signals, interventions, trips },
         [bytes.buffer, ...buffers]);
     send({ kind: "braking", id, rows: brakingOf(records) });
-    return { records, status, interventions, trips };
+    return await judge(calls, id, records) ? { records, status, interventions, trips } : null;
+}
+
+/** What is implausible. */
+async function judge(calls: Calls, id: number, records: Records): Promise<boolean> {
+    const one = new Judge(records, groupsBy(calls, grammar as Grammar));
+    const isDone = await pieces(id, "readings judged", records.count, done => {
+        const first = JUDGED * done, end = Math.min(records.count, first + JUDGED);
+        for (let n = first; n < end; n++) one.add(n);
+        return end < records.count;
+    }, JUDGED);
+    if (isDone) send({ kind: "implausible", id, findings: one.end() });
+    return isDone;
 }
 
 async function readSlots(calls: Calls, id: number, held: Held, facts: Facts, read: Read): Promise<boolean> {
@@ -169,44 +185,60 @@ function withSlots(bytes: Uint8Array, slots: number): Uint8Array {
 async function read(calls: Calls, id: number, file: Blob, slots: number|null): Promise<void> {
     const bytes = new Uint8Array(await file.arrayBuffer());
     const digest = hexOf(new Uint8Array(await crypto.subtle.digest("SHA-256", bytes)));
-    if (newest !== id) return;
-    if (image) calls.drop(image.held);
-    const held = calls.hold(slots === null ? bytes : withSlots(bytes, slots));
-    image = { id, held };
+    if (!wanted.has(id)) return;
+    const one = calls.hold(slots === null ? bytes : withSlots(bytes, slots));
+    held.set(id, one);
     send({ kind: "bytes", id, bytes: bytes.buffer, digest }, [bytes.buffer]);
-    const { status, value } = calls.facts(held);
+    const { status, value } = calls.facts(one);
     send({ kind: "facts", id, status, facts: value });
     if (value) {
-        const found = await readRecords(calls, id, held);
-        if (!found || !await readSlots(calls, id, held, value, found) || !await replay(calls, id, held) ||
-            !await causes(calls, id, held, found))
+        const found = await readRecords(calls, id, one);
+        if (!found || !await readSlots(calls, id, one, value, found) || !await replay(calls, id, one) ||
+            !await causes(calls, id, one, found))
             return;
     }
     send({ kind: "done", id });
 }
 
+/** Gives back the memory of an image, once nothing reads it. */
+async function drop(calls: Calls, id: number): Promise<void> {
+    await reading;
+    const one = held.get(id);
+    if (one) calls.drop(one);
+    held.delete(id);
+}
+
 async function obey(order: Order): Promise<void> {
     if (order.kind === "module") {
+        grammar = order.grammar;
         calls = WebAssembly.instantiate(order.module, {}).then(instance => Calls.of(instance));
         return;
     }
     if (!calls) throw new Error("there is no module yet");
     const ready = await calls;
     if (order.kind === "image") await read(ready, order.id, order.file, order.slots);
-    else if (order.kind === "once" || image?.id === order.id) {
-        const held = order.kind === "once" ? ready.hold(new Uint8Array(order.bytes)) : (image as { held: Held }).held;
-        const { status, value } = ready.why(held, order.block, order.event);
+    else if (order.kind === "drop") await drop(ready, order.id);
+    else {
+        const one = order.kind === "once" ? ready.hold(new Uint8Array(order.bytes)) : held.get(order.id);
+        if (!one || order.kind === "why" && !wanted.has(order.id)) return;
+        const { status, value } = ready.why(one, order.block, order.event);
         send({ kind: "why", id: order.id, event: order.event, block: order.block, status, why: value });
-        if (order.kind === "once") ready.drop(held);
+        if (order.kind === "once") ready.drop(one);
     }
 }
 
 onmessage = (event: MessageEvent<Order>) => {
     const order = event.data;
-    if (order.kind === "image") newest = order.id;
-    obey(order).catch((error: unknown) => send({
+    const obeyed = (): Promise<void> => obey(order).catch((error: unknown) => send({
         kind: "failed",
         id: order.kind === "module" ? 0 : order.id,
         says: error instanceof DOMException ? SAY.unreadableFile : String(error)
     }));
+    if (order.kind === "image") {
+        wanted.add(order.id);
+        reading = reading.then(obeyed);
+    } else {
+        if (order.kind === "drop") wanted.delete(order.id);
+        void obeyed();
+    }
 };

@@ -8,9 +8,10 @@ from typing import Any
 
 from asking import SECTOR, SLOT, altered, bases, example, image
 from browsing import Browser
-from gaknifur.journal import braking, reading
-from gaknifur.journal import verdict as faults
+from gaknifur.journal import braking, reading, tables
+from gaknifur.journal import verdict as verdicts
 from handing import CATCH, TEXT
+from pandas import NA
 
 TRIED = 25
 ENTRIES: list[Any] = [{"driver": [1, "IC 704"]}, {"driver": [4, 1]}, {"driver": [3, 20000, 160000, 70, 2000, 15]}, {"driver": [6]}]
@@ -93,12 +94,12 @@ def verdict(browser: Browser, _page: Path, folder: Path) -> int:
         found = browser.ask(path)["verdict"]
         assert found == says, (name, found)
         shown = browser.run("return document.querySelector('#brief dd').textContent")
-        assert shown == ("; ".join(says) or "nothing is lost, damaged or contradicts, and the replay finds no difference") + ". The page doesn't judge plausibility; lab check does.", shown
+        assert shown == ("; ".join(says) or "nothing is lost, damaged or contradicts, and the replay finds no difference") + ".", shown
     return 2 * len(wanted)
 
 
 def agrees(browser: Browser, _page: Path, folder: Path) -> int:
-    """Of images, whole and altered: the rows and the verdict are those of the package, but for what is implausible."""
+    """Of images, whole and altered: the rows, what is implausible, and the verdict are those of the package."""
     dice, rows, said = random.Random(17), 0, set()
     made = [*bases(folder, dice), image(folder, [driven(STOPS, 9000), driven(RUNS, None)], 24)]
     for number, data in enumerate([*made, *(altered(dice.choice(made), dice) for _ in range(TRIED))]):
@@ -110,11 +111,36 @@ def agrees(browser: Browser, _page: Path, folder: Path) -> int:
         journal = reading.read(path, replay=True)
         wanted = list(braking.rows(journal.records))
         assert found["braking"] == wanted, (number, [pair for pair in zip(found["braking"], wanted) if pair[0] != pair[1]][:1])
-        assert found["verdict"] == faults.faults(journal), (number, found["verdict"])
+        judged = verdicts.of(journal)
+        assert found["implausible"] == judged.implausible and found["verdict"] == judged.sentences, (number, found["verdict"], judged.sentences)
         rows += len(wanted)
         said.update(one[:12] for one in found["verdict"])
     assert len(said) >= 2, said
     return rows
 
 
-CHECKS = {"agrees": (agrees, 60), "braked": (braked, 30), "verdict": (verdict, 4)}
+def speeds(browser: Browser, _page: Path, folder: Path) -> int:
+    """The speed at each record is that of the package's table. It is unknown after an overwritten beginning until a reading comes, at each place that shows it."""
+    path, dice, count = folder / "image", random.Random(3), 0
+    overwritten = {"steps": [{"drive": [100, 10_000]}, *({"clock": 1000 * n} for n in range(1, 60)), {"drive": [100, 12_000]}, {"clock": 60_000}]}
+    for data in [*bases(folder, dice), image(folder, [overwritten], 2)]:
+        path.write_bytes(data)
+        browser.ask(path)
+        found = browser.run("return [...window.gaknifur.ask.image.speeds].map(one => Number.isNaN(one) ? null : one)")
+        wanted = [None if one is NA else int(one) for one in tables.frame(reading.read(path))["speed_m_per_h"]]
+        assert found == wanted, (found, wanted)
+        count += len(wanted)
+    assert found[0] is None and found[-1] == 12_000, found
+    browser.run("window.gaknifur.ask.choose(0)")
+    shown = [browser.text("ask-dial-said"), browser.text("viewer-at"), browser.run("const d = document.querySelectorAll('#ask-dial .digits'); return d[d.length - 1].textContent"),
+             browser.run("return document.querySelector('#ask-dial .hand').getAttribute('visibility')")]
+    assert shown[0].startswith("unknown, limit") and shown[1].startswith("At the cursor: speed unknown;") and shown[2:] == ["?", "hidden"], shown
+    browser.run(CATCH)
+    browser.click("save-json")
+    assert [row["speed_m_per_h"] for row in json.loads(browser.run_later(TEXT, "image.json"))["events"]] == found
+    browser.run("window.gaknifur.ask.choose(window.gaknifur.ask.records.count - 1)")
+    assert browser.text("ask-dial-said").startswith("12.0 km/h, limit") and browser.complaints() == [], browser.text("ask-dial-said")
+    return count
+
+
+CHECKS = {"agrees": (agrees, 60), "braked": (braked, 30), "verdict": (verdict, 4), "speeds": (speeds, 100)}

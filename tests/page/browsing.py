@@ -73,7 +73,12 @@ class Browser:
         self.send(name, "\n".join(map(str, (path, *others))))
 
     def ask(self, path: Path, *others: Path, seconds: float = SECONDS) -> dict[str, Any]:
-        """Hands over an image, and perhaps marks, and returns what the page shows of it once it is complete."""
+        """Removes all images, hands over one, and perhaps marks, and returns what the page shows of it once it is complete."""
+        self.run("for (let one; (one = document.querySelector('#images .remove'));) one.click()")
+        return self.ask_also(path, *others, seconds=seconds)
+
+    def ask_also(self, path: Path, *others: Path, seconds: float = SECONDS) -> dict[str, Any]:
+        """The same next to the images that are shown."""
         self.run("window.before = window.gaknifur.ask.id")
         self.hand(path, "file", *others)
         self.until("const a = window.gaknifur.ask; return a.id > window.before && (document.getElementById('answers').hidden"

@@ -27,9 +27,9 @@ DOTS = "return ['limit-dots', 'speed-dots'].map(name => (document.querySelector(
 TICKS = "window.gaknifur.ask.viewer.drawNow(); return [...document.querySelectorAll('#viewer-chart .tick-label')].map(one => one.textContent)"
 WINDOW = "const { viewer } = window.gaknifur.ask; viewer.drawNow(); return [viewer.from, viewer.to]"
 COLUMNS = """
-const [from, to, columns, kind] = arguments, { viewer } = window.gaknifur.ask, { columnsOf } = window.gaknifur.parts;
-const before = kind ? [...viewer.signals.kind].reduce((all, one) => (all.push(all[all.length - 1] + (one === kind)), all), [0]) : null;
-const all = columnsOf(viewer.signals, viewer.axis, viewer.chunks, from, to, columns, before), list = band => [...band.low].map((low, n) => low > band.high[n] ? null : [low, band.high[n]]);
+const [from, to, columns, kind] = arguments, [{ signals, axis, chunks }] = window.gaknifur.ask.viewer.layers, { columnsOf } = window.gaknifur.parts;
+const before = kind ? [...signals.kind].reduce((all, one) => (all.push(all[all.length - 1] + (one === kind)), all), [0]) : null;
+const all = columnsOf(signals, axis, chunks, from, to, columns, before), list = band => [...band.low].map((low, n) => low > band.high[n] ? null : [low, band.high[n]]);
 return [list(all.speed), list(all.limit), [...all.brake], [...all.mode], all.count, all.matches];
 """
 POINTER = """
@@ -83,17 +83,18 @@ def in_utc(browser: Browser, _page: Path, folder: Path) -> int:
 def wanted_of(records: list[Any], x: list[float], window: tuple[float, float], columns: int, kind: str | None) -> Any:
     """What the columns of a window have: the least and the greatest speed of the records in each, and the worst brake; without what holds from before."""
     speeds: list[Any] = [None] * columns
-    brakes, count, matches, speed, life = [0] * columns, 0, 0, 0, None
+    brakes, count, matches, speed, life = [0] * columns, 0, 0, None, None
     for record, place in zip(records, x):
-        speed = record["speed_m_per_h"] if record["kind"] == "odometer" else speed if record["life"] == life else 0
+        speed = record["speed_m_per_h"] if record["kind"] == "odometer" else speed if record["life"] == life else 0 if record["kind"] == "powerup" else None
         life = record["life"]
         if not window[0] <= place < window[1]:
             continue
         column = int((place - window[0]) * (columns / (window[1] - window[0])))
         if column >= columns:
             continue
-        low, high = speeds[column] or (speed, speed)
-        speeds[column] = [min(low, speed), max(high, speed)]
+        if speed is not None:
+            low, high = speeds[column] or (speed, speed)
+            speeds[column] = [min(low, speed), max(high, speed)]
         brakes[column] = max(brakes[column], ("none", "service", "emergency").index(record["brake"]))
         count, matches = count + 1, matches + (kind in (None, record["kind"]))
     return speeds, brakes, count, matches
@@ -110,7 +111,7 @@ def columns_hold(browser: Browser, _page: Path, folder: Path) -> int:
         records = [line for line in lab("events", str(path))[1] if "event" in line]
         for axis in ("moment", "place"):
             browser.run(AXIS, axis)
-            x, spans = browser.run("const { axis } = window.gaknifur.ask.viewer; return [[...axis.x], axis.spans.map(one => [one.life.from, one.life.end, one.low, one.high])]")
+            x, spans = browser.run("const [{ axis }] = window.gaknifur.ask.viewer.layers; return [[...axis.x], axis.spans.map(one => [one.life.from, one.life.end, one.low, one.high])]")
             values = [record["time_ms" if axis == "moment" else "place_cm"] for record in records]
             assert [span[0] for span in spans] == [n for n, one in enumerate(records) if not n or one["life"] != records[n - 1]["life"]], spans
             for first, end, low, _ in spans:  # (each life keeps its distances, and none covers another)
@@ -158,16 +159,16 @@ def moves(browser: Browser, _page: Path, folder: Path) -> int:
     browser.run(KEY, "0")
     assert browser.run(WINDOW) == all_
     index = browser.run("return window.gaknifur.ask.records.find(24)")
-    part = browser.run("const { viewer } = window.gaknifur.ask, { width } = viewer.root.viewBox.baseVal; return (58 + (width - 68) * (viewer.axis.x[arguments[0]] - viewer.from) / (viewer.to - viewer.from)) / width", index)
+    part = browser.run("const { viewer } = window.gaknifur.ask, { width } = viewer.root.viewBox.baseVal; return (58 + (width - 68) * (viewer.layers[0].axis.x[arguments[0]] - viewer.from) / (viewer.to - viewer.from)) / width", index)
     browser.run(POINTER, [["pointerdown", 1, part], ["pointerup", 1, part]])
-    assert browser.run("const { ask } = window.gaknifur; return ask.viewer.axis.x[ask.index] === ask.viewer.axis.x[arguments[0]]", index)
+    assert browser.run("const { ask } = window.gaknifur; return ask.viewer.layers[0].axis.x[ask.index] === ask.viewer.layers[0].axis.x[arguments[0]]", index)
     browser.run("window.gaknifur.ask.chooseEvent(24)")
     said = browser.text("viewer-at")
     assert said == ("At the cursor: speed 15.0 km/h; limit, which is the permitted speed, 0.0 km/h; emergency brake; Full Supervision; level 1; front at 300.00 m;"
                     " moment 0 s."), said
-    browser.run("const { viewer } = window.gaknifur.ask; viewer.zoom(0.05, viewer.axis.low)")
+    browser.run("const { viewer } = window.gaknifur.ask; viewer.zoom(0.05, viewer.layers[0].axis.low)")
     browser.run("window.gaknifur.ask.choose(window.gaknifur.ask.records.count - 1)")
-    window, x = browser.run(WINDOW), browser.run("const { ask } = window.gaknifur; return ask.viewer.axis.x[ask.index]")
+    window, x = browser.run(WINDOW), browser.run("const { ask } = window.gaknifur; return ask.viewer.layers[0].axis.x[ask.index]")
     assert window[0] <= x <= window[1], (window, x)
     return 14
 
@@ -196,7 +197,7 @@ def filters(browser: Browser, _page: Path, folder: Path) -> int:
     rows = list(csv.DictReader(io.StringIO(browser.run_later(TEXT, "image.seen.csv"))))
     assert [int(row["event"]) for row in rows] == wanted, rows
     saved = json.loads(browser.run_later(TEXT, "image.seen.json"))
-    assert [one["event"] for one in saved["events"]] == wanted and saved["seen"]["filter"] == {"kind": "odometer", "brake": "emergency brake"}, saved["seen"]
+    assert [one["event"] for one in saved["images"][0]["events"]] == wanted and saved["seen"]["filter"] == {"kind": "odometer", "brake": "emergency brake"}, saved["seen"]
     browser.until("return 'image.seen.png' in window.saved")
     width, height, colours = browser.run_later(SIZE, "image.seen.png")
     assert width >= 600 and height >= 300 and colours >= 8, (width, height, colours)

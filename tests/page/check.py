@@ -1,7 +1,7 @@
 #!/usr/bin/python3 -IB
 """The page of tools/page in headless Chromium, along with the programs `etcs` and `etcs_lab` and the library for C.
 
-    tests/page/check.py PAGE [NAME..]    run all checks of a page, or those of these names; `opens_long` and `fluid_long` run only by their names
+    tests/page/check.py PAGE [NAME..]    run all checks of a page, or those of these names; `opens_long`, `fluid_long` and `fluid_two_long` run only by their names
 
 Where GAKNIFUR_BROWSER is `firefox`, run them in Firefox, except those that need Chromium's driver. The last line has the number of comparisons.
 """
@@ -23,13 +23,15 @@ import desks  # noqa: E402
 import first  # noqa: E402
 import guarded  # noqa: E402
 import handing  # noqa: E402
+import implausible  # noqa: E402
 import manners  # noqa: E402
 import own  # noqa: E402
 import paper  # noqa: E402
 import quick  # noqa: E402
+import several  # noqa: E402
 from browsing import Browser  # noqa: E402
 
-CHECKS = {**desks.CHECKS, **own.CHECKS, **apart.CHECKS, **asking.CHECKS, **days.CHECKS, **briefs.CHECKS, **braked.CHECKS, **first.CHECKS, **charts.CHECKS, **manners.CHECKS, **guarded.CHECKS, **handing.CHECKS, **paper.CHECKS, **quick.CHECKS}
+CHECKS = {**desks.CHECKS, **own.CHECKS, **apart.CHECKS, **asking.CHECKS, **days.CHECKS, **briefs.CHECKS, **braked.CHECKS, **first.CHECKS, **charts.CHECKS, **manners.CHECKS, **guarded.CHECKS, **implausible.CHECKS, **handing.CHECKS, **paper.CHECKS, **several.CHECKS, **quick.CHECKS}
 ALL = CHECKS | quick.LONG
 CHROMIUM_ALONE = ("edited",)
 

@@ -68,7 +68,8 @@ def noted(browser: Browser, page: Path, folder: Path) -> int:
     browser.click("save-json", "save-report", "save-seen-json")
     notes = [{"event": event, "text": text} for event, text in texts.items()]
     for kind in ("one.json", "one.seen.json"):
-        assert json.loads(browser.run_later(TEXT, kind))["notes"] == notes, kind
+        saved = json.loads(browser.run_later(TEXT, kind))
+        assert saved.get("images", [saved])[0]["notes"] == notes, kind
     report = browser.run_later(TEXT, "one.html")
     assert "The driver says &lt;b&gt;that&lt;/b&gt; he braked." in report and "<textarea" not in report and "<select" not in report
     browser.run("window.gaknifur.ask.chooseEvent(5); const note = document.getElementById('note'); note.value = ' '; note.dispatchEvent(new Event('input'))")

@@ -36,15 +36,15 @@ return took.sort((one, other) => one - other);
 """
 
 
-def long_image(folder: Path, events: int) -> Path:
-    """An image of so many events in four lives of a train that moves, brakes and stands."""
-    path, scenario = folder / "image", folder / "scenario.json"
+def long_image(folder: Path, events: int, number: int = 0) -> Path:
+    """An image of so many events in four lives of a train that moves, brakes and stands; one of another number has other speeds."""
+    path, scenario = folder / f"image{number or ''}", folder / "scenario.json"
     etcs("format", str(path), str(events // 8 + 64))
     for _ in range(4):
         steps, moment = list(START), 0
         while len(steps) < events // 4 - 1:
             moment += 250
-            speed = 50_000 if len(steps) % 4_000 > 3_900 else 0 if len(steps) % 4_000 > 3_600 else 30_000
+            speed = 50_000 if len(steps) % 4_000 > 3_900 else 0 if len(steps) % 4_000 > 3_600 else 30_000 + 1_000 * number
             steps += [{"clock": moment}, {"drive": [speed * 250 // 36_000, speed]}]
         scenario.write_text(json.dumps({"cold": 0, "groups": [], "steps": steps[:events // 4 - 1]}), encoding="utf-8")
         etcs("run", str(scenario), str(path))
@@ -106,6 +106,8 @@ def marks(browser: Browser, _page: Path, folder: Path) -> int:
 PICTURE = """
 const { ask } = window.gaknifur, hear = ask.hear.bind(ask);
 window.picture = null;
+if (window.pictured) return;
+window.pictured = true;
 ask.hear = report => {
     const begun = performance.now();
     hear(report);
@@ -133,17 +135,19 @@ return [took.sort((one, other) => one - other), Math.max(...[...chart.querySelec
 """
 
 
-def drawn(browser: Browser, folder: Path, events: int, seconds: int) -> int:
-    """The first picture after the records are read, and how long a frame takes while the window moves; no path grows as the events do."""
-    path = long_image(folder, events)
-    browser.run(PICTURE)
-    browser.hand(path)
-    browser.until("return window.picture !== null", seconds)
-    assert browser.run("return window.gaknifur.ask.records.count") == events
+def drawn(browser: Browser, folder: Path, events: int, seconds: int, images: int = 1) -> int:
+    """The first picture after the records are read, and how long a frame takes while the window moves; no path grows as the events do. Of several
+    images the last one's picture, which has all of them."""
+    for number in range(images):
+        path = long_image(folder, events // images, number)
+        browser.run(PICTURE)
+        browser.hand(path)
+        browser.until("return window.picture !== null", seconds)
+    assert browser.run("return window.gaknifur.ask.viewer.layers.map(({ axis }) => axis.x.length)") == [events // images] * images
     picture, (took, longest) = browser.run("return window.picture"), browser.run(FRAME, FRAMES)
     frame = took[len(took) * 9 // 10]
-    print(f"page: {events} events: the first picture in {picture / 1000:.2f} s, nine frames of ten in {frame:.0f} ms, half of them in {took[len(took) // 2]:.0f} ms", flush=True)
-    assert picture <= SLOWER * 1000 * PICTURE_S and frame <= SLOWER * DRAW_MS and longest < 50_000, (picture, frame, longest)
+    print(f"page: {events} events in {images} image{'s' * (images > 1)}: the first picture in {picture / 1000:.2f} s, nine frames of ten in {frame:.0f} ms, half of them in {took[len(took) // 2]:.0f} ms", flush=True)
+    assert picture <= SLOWER * 1000 * PICTURE_S and frame <= SLOWER * DRAW_MS * images and longest < 50_000, (picture, frame, longest)
     return len(took)
 
 
@@ -157,5 +161,15 @@ def fluid_long(browser: Browser, _page: Path, folder: Path) -> int:
     return drawn(browser, folder, MOST_SEEN, 900)
 
 
-CHECKS = {"opens": (opens, RUNS + STEPS), "marks": (marks, 2 * MARKS), "fluid": (fluid, 2 * FRAMES)}
-LONG = {"opens_long": (opens_long, MOST_RUNS + STEPS), "fluid_long": (fluid_long, 2 * FRAMES)}
+def fluid_two(browser: Browser, _page: Path, folder: Path) -> int:
+    """30,000 events in two images."""
+    return drawn(browser, folder, SEEN_EVENTS, 60, 2)
+
+
+def fluid_two_long(browser: Browser, _page: Path, folder: Path) -> int:
+    """1,000,000 events in two images."""
+    return drawn(browser, folder, MOST_SEEN, 900, 2)
+
+
+CHECKS = {"opens": (opens, RUNS + STEPS), "marks": (marks, 2 * MARKS), "fluid": (fluid, 2 * FRAMES), "fluid_two": (fluid_two, 2 * FRAMES)}
+LONG = {"opens_long": (opens_long, MOST_RUNS + STEPS), "fluid_long": (fluid_long, 2 * FRAMES), "fluid_two_long": (fluid_two_long, 2 * FRAMES)}

@@ -14,8 +14,9 @@ package Etcs_C is
    Unit_Outputs : constant := 8;
    Unit_Request_Bytes : constant := 8192;
    Brake_Causes : constant := 10;
-   Payload_Bytes : constant := 104;
    Endless : constant := 16#FFFFFFFF#;
+   Actions : constant := 16;
+   Payload_Bytes : constant := 104;
    No_Packet : constant := 256;
 
    type Fault is (
@@ -310,6 +311,16 @@ package Etcs_C is
       Asked => 1,
       Owed => 2);
 
+   type Datum is (
+      Unknown,
+      Valid,
+      Invalid)
+   with Size => 32;
+   for Datum use (
+      Unknown => 0,
+      Valid => 1,
+      Invalid => 2);
+
    type Adaptation is (
       None,
       Written,
@@ -399,16 +410,6 @@ package Etcs_C is
       Odometer => 3,
       Clock => 4,
       Driver => 5);
-
-   type Datum is (
-      Unknown,
-      Valid,
-      Invalid)
-   with Size => 32;
-   for Datum use (
-      Unknown => 0,
-      Valid => 1,
-      Invalid => 2);
 
    type Verdict is (
       Agrees,
@@ -644,6 +645,58 @@ package Etcs_C is
    end record with Convention => C;
    pragma Compile_Time_Error (Unit_Why_Info_Struct'Size /= 1152, "the library has another layout");
 
+   type Unsigned_16_Array_32 is array (0 .. 31) of Unsigned_16 with Convention => C;
+   type National_Struct is record
+      Shunting_M_Per_H : Unsigned_32;
+      Staff_Responsible_M_Per_H : Unsigned_32;
+      On_Sight_M_Per_H : Unsigned_32;
+      Unfitted_M_Per_H : Unsigned_32;
+      Release_M_Per_H : Unsigned_32;
+      Roll_Cm : Unsigned_32;
+      Override_Allowed_M_Per_H : Unsigned_32;
+      Override_M_Per_H : Unsigned_32;
+      Override_Distance_Cm : Unsigned_32;
+      Override_Time_Ms : Unsigned_32;
+      Staff_Responsible_Distance_Cm : Unsigned_32;
+      Count : Unsigned_32;
+      Countries : Unsigned_16_Array_32;
+   end record with Convention => C;
+   pragma Compile_Time_Error (National_Struct'Size /= 896, "the library has another layout");
+
+   type Unsigned_8_Array_16 is array (0 .. 15) of Unsigned_8 with Convention => C;
+   type Kept_Struct is record
+      Distance_Cm : Integer_64;
+      Train : Train_Data_Struct;
+      Running_Number : Unsigned_32;
+      Country : Unsigned_32;
+      Group : Unsigned_32;
+      Identity : Unsigned_8_Array_16;
+      Identity_Len : Unsigned_8;
+      Has_Running_Number : Unsigned_8;
+      Has_Train : Unsigned_8;
+      Level_Status : Unsigned_8;
+      Level : Unsigned_8;
+      Position_Status : Unsigned_8;
+      Trip_Outstanding : Unsigned_8;
+      Reserved : Unsigned_8;
+      National : National_Struct;
+   end record with Convention => C;
+   pragma Compile_Time_Error (Kept_Struct'Size /= 1408, "the library has another layout");
+
+   type Unsigned_8_Array_7 is array (0 .. 6) of Unsigned_8 with Convention => C;
+   type Unit_Driver_Info_Struct is record
+      Kept : Kept_Struct;
+      Speed_M_Per_H : Unsigned_32;
+      Mode : Unsigned_8;
+      Accepts : Unsigned_8_Array_16;
+      Accepts_Identity : Unsigned_8;
+      Accepts_Running_Number : Unsigned_8;
+      Accepts_Train_Data : Unsigned_8;
+      Is_Revalidated : Unsigned_8;
+      Reserved : Unsigned_8_Array_7;
+   end record with Convention => C;
+   pragma Compile_Time_Error (Unit_Driver_Info_Struct'Size /= 1664, "the library has another layout");
+
    type Adapted_Struct is record
       Outcome : Unsigned_32;
       Len : Unsigned_32;
@@ -691,44 +744,6 @@ package Etcs_C is
       Reserved : Unsigned_32;
    end record with Convention => C;
    pragma Compile_Time_Error (Slot_Start_Struct'Size /= 128, "the library has another layout");
-
-   type Unsigned_16_Array_32 is array (0 .. 31) of Unsigned_16 with Convention => C;
-   type National_Struct is record
-      Shunting_M_Per_H : Unsigned_32;
-      Staff_Responsible_M_Per_H : Unsigned_32;
-      On_Sight_M_Per_H : Unsigned_32;
-      Unfitted_M_Per_H : Unsigned_32;
-      Release_M_Per_H : Unsigned_32;
-      Roll_Cm : Unsigned_32;
-      Override_Allowed_M_Per_H : Unsigned_32;
-      Override_M_Per_H : Unsigned_32;
-      Override_Distance_Cm : Unsigned_32;
-      Override_Time_Ms : Unsigned_32;
-      Staff_Responsible_Distance_Cm : Unsigned_32;
-      Count : Unsigned_32;
-      Countries : Unsigned_16_Array_32;
-   end record with Convention => C;
-   pragma Compile_Time_Error (National_Struct'Size /= 896, "the library has another layout");
-
-   type Unsigned_8_Array_16 is array (0 .. 15) of Unsigned_8 with Convention => C;
-   type Kept_Struct is record
-      Distance_Cm : Integer_64;
-      Train : Train_Data_Struct;
-      Running_Number : Unsigned_32;
-      Country : Unsigned_32;
-      Group : Unsigned_32;
-      Identity : Unsigned_8_Array_16;
-      Identity_Len : Unsigned_8;
-      Has_Running_Number : Unsigned_8;
-      Has_Train : Unsigned_8;
-      Level_Status : Unsigned_8;
-      Level : Unsigned_8;
-      Position_Status : Unsigned_8;
-      Trip_Outstanding : Unsigned_8;
-      Reserved : Unsigned_8;
-      National : National_Struct;
-   end record with Convention => C;
-   pragma Compile_Time_Error (Kept_Struct'Size /= 1408, "the library has another layout");
 
    type Block_Struct is record
       Number : Unsigned_64;
@@ -922,6 +937,9 @@ package Etcs_C is
    function Unit_Why (Unit : System.Address; Why : System.Address) return Unsigned_32
    with Import, Convention => C, External_Name => "etcs_unit_why_";
 
+   function Unit_Driver (Unit : System.Address; Driver : System.Address) return Unsigned_32
+   with Import, Convention => C, External_Name => "etcs_unit_driver_";
+
    function Unit_Close (Unit : System.Address) return Unsigned_32
    with Import, Convention => C, External_Name => "etcs_unit_close_";
 
@@ -1027,6 +1045,9 @@ package Etcs_C is
    function Action_Name (Number : Unsigned_32) return System.Address
    with Import, Convention => C, External_Name => "etcs_action_name";
 
+   function Datum_Name (Number : Unsigned_32) return System.Address
+   with Import, Convention => C, External_Name => "etcs_datum_name";
+
    function Cold_Name (Number : Unsigned_32) return System.Address
    with Import, Convention => C, External_Name => "etcs_cold_name";
 
@@ -1062,9 +1083,6 @@ package Etcs_C is
 
    function Kind_Name (Number : Unsigned_32) return System.Address
    with Import, Convention => C, External_Name => "etcs_kind_name";
-
-   function Datum_Name (Number : Unsigned_32) return System.Address
-   with Import, Convention => C, External_Name => "etcs_datum_name";
 
    function Slot_State_Name (Number : Unsigned_32) return System.Address
    with Import, Convention => C, External_Name => "etcs_slot_state_name";

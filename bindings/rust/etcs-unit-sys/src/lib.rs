@@ -13,8 +13,9 @@ pub const ETCS_UNIT_SECTOR: u32 = 512;
 pub const ETCS_UNIT_OUTPUTS: u32 = 8;
 pub const ETCS_UNIT_REQUEST_BYTES: u32 = 8192;
 pub const ETCS_BRAKE_CAUSES: u32 = 10;
-pub const ETCS_PAYLOAD_BYTES: u32 = 104;
 pub const ETCS_ENDLESS: u32 = 0xFFFFFFFF;
+pub const ETCS_ACTIONS: u32 = 16;
+pub const ETCS_PAYLOAD_BYTES: u32 = 104;
 pub const ETCS_NO_PACKET: u32 = 256;
 
 pub const ETCS_OK: u32 = 0;
@@ -311,6 +312,89 @@ impl Default for etcs_unit_why_info {
 
 const _: () = assert!(size_of::<etcs_unit_why_info>() == 144);
 
+pub const ETCS_DATUM_UNKNOWN: u32 = 0;
+pub const ETCS_DATUM_VALID: u32 = 1;
+pub const ETCS_DATUM_INVALID: u32 = 2;
+
+#[repr(C)]
+#[derive(Clone, Copy, Debug)]
+pub struct etcs_national {
+    pub shunting_m_per_h: u32,
+    pub staff_responsible_m_per_h: u32,
+    pub on_sight_m_per_h: u32,
+    pub unfitted_m_per_h: u32,
+    pub release_m_per_h: u32,
+    pub roll_cm: u32,
+    pub override_allowed_m_per_h: u32,
+    pub override_m_per_h: u32,
+    pub override_distance_cm: u32,
+    pub override_time_ms: u32,
+    pub staff_responsible_distance_cm: u32,
+    pub count: u32,
+    pub countries: [u16; 32],
+}
+
+impl Default for etcs_national {
+    fn default() -> Self {
+        // SAFETY: of numbers, arrays of numbers and pointers all zeros are a value.
+        unsafe { zeroed() }
+    }
+}
+
+const _: () = assert!(size_of::<etcs_national>() == 112);
+
+#[repr(C)]
+#[derive(Clone, Copy, Debug)]
+pub struct etcs_kept {
+    pub distance_cm: i64,
+    pub train: etcs_train_data,
+    pub running_number: u32,
+    pub country: u32,
+    pub group: u32,
+    pub identity: [u8; 16],
+    pub identity_len: u8,
+    pub has_running_number: u8,
+    pub has_train: u8,
+    pub level_status: u8,
+    pub level: u8,
+    pub position_status: u8,
+    pub trip_outstanding: u8,
+    pub reserved: u8,
+    pub national: etcs_national,
+}
+
+impl Default for etcs_kept {
+    fn default() -> Self {
+        // SAFETY: of numbers, arrays of numbers and pointers all zeros are a value.
+        unsafe { zeroed() }
+    }
+}
+
+const _: () = assert!(size_of::<etcs_kept>() == 176);
+
+#[repr(C)]
+#[derive(Clone, Copy, Debug)]
+pub struct etcs_unit_driver_info {
+    pub kept: etcs_kept,
+    pub speed_m_per_h: u32,
+    pub mode: u8,
+    pub accepts: [u8; 16],
+    pub accepts_identity: u8,
+    pub accepts_running_number: u8,
+    pub accepts_train_data: u8,
+    pub is_revalidated: u8,
+    pub reserved: [u8; 7],
+}
+
+impl Default for etcs_unit_driver_info {
+    fn default() -> Self {
+        // SAFETY: of numbers, arrays of numbers and pointers all zeros are a value.
+        unsafe { zeroed() }
+    }
+}
+
+const _: () = assert!(size_of::<etcs_unit_driver_info>() == 208);
+
 pub const ETCS_ADAPTATION_NONE: u32 = 0;
 pub const ETCS_ADAPTATION_WRITTEN: u32 = 1;
 pub const ETCS_ADAPTATION_SEVERAL: u32 = 2;
@@ -402,10 +486,6 @@ pub const ETCS_TELEGRAM: u32 = 2;
 pub const ETCS_ODOMETER: u32 = 3;
 pub const ETCS_CLOCK: u32 = 4;
 pub const ETCS_DRIVER: u32 = 5;
-
-pub const ETCS_DATUM_UNKNOWN: u32 = 0;
-pub const ETCS_DATUM_VALID: u32 = 1;
-pub const ETCS_DATUM_INVALID: u32 = 2;
 
 pub const ETCS_VERDICT_AGREES: u32 = 1;
 pub const ETCS_VERDICT_RECORD_DIFFERS: u32 = 2;
@@ -499,62 +579,6 @@ impl Default for etcs_slot_start {
 }
 
 const _: () = assert!(size_of::<etcs_slot_start>() == 16);
-
-#[repr(C)]
-#[derive(Clone, Copy, Debug)]
-pub struct etcs_national {
-    pub shunting_m_per_h: u32,
-    pub staff_responsible_m_per_h: u32,
-    pub on_sight_m_per_h: u32,
-    pub unfitted_m_per_h: u32,
-    pub release_m_per_h: u32,
-    pub roll_cm: u32,
-    pub override_allowed_m_per_h: u32,
-    pub override_m_per_h: u32,
-    pub override_distance_cm: u32,
-    pub override_time_ms: u32,
-    pub staff_responsible_distance_cm: u32,
-    pub count: u32,
-    pub countries: [u16; 32],
-}
-
-impl Default for etcs_national {
-    fn default() -> Self {
-        // SAFETY: of numbers, arrays of numbers and pointers all zeros are a value.
-        unsafe { zeroed() }
-    }
-}
-
-const _: () = assert!(size_of::<etcs_national>() == 112);
-
-#[repr(C)]
-#[derive(Clone, Copy, Debug)]
-pub struct etcs_kept {
-    pub distance_cm: i64,
-    pub train: etcs_train_data,
-    pub running_number: u32,
-    pub country: u32,
-    pub group: u32,
-    pub identity: [u8; 16],
-    pub identity_len: u8,
-    pub has_running_number: u8,
-    pub has_train: u8,
-    pub level_status: u8,
-    pub level: u8,
-    pub position_status: u8,
-    pub trip_outstanding: u8,
-    pub reserved: u8,
-    pub national: etcs_national,
-}
-
-impl Default for etcs_kept {
-    fn default() -> Self {
-        // SAFETY: of numbers, arrays of numbers and pointers all zeros are a value.
-        unsafe { zeroed() }
-    }
-}
-
-const _: () = assert!(size_of::<etcs_kept>() == 176);
 
 #[repr(C)]
 #[derive(Clone, Copy, Debug)]
@@ -795,6 +819,7 @@ extern "C" {
     pub fn etcs_unit_release_(unit: *mut etcs_unit, outputs: *mut etcs_unit_output, room: u64, count: *mut u32) -> u32;
     pub fn etcs_unit_state_(unit: *mut etcs_unit, state: *mut etcs_unit_state_info) -> u32;
     pub fn etcs_unit_why_(unit: *mut etcs_unit, why: *mut etcs_unit_why_info) -> u32;
+    pub fn etcs_unit_driver_(unit: *mut etcs_unit, driver: *mut etcs_unit_driver_info) -> u32;
     pub fn etcs_unit_close_(unit: *mut etcs_unit) -> u32;
     pub fn etcs_unit_format_request_(slots: u32, index: u32, request: *mut etcs_unit_request_info, bytes: *mut u8, room: u64) -> u32;
     pub fn etcs_telegram_adapt_(bytes: *const u8, len: u64, out: *mut u8, room: u64, told: *mut etcs_adapted) -> u32;
@@ -825,6 +850,7 @@ extern "C" {
     pub fn etcs_limit_cause_name(number: u32) -> *const c_char;
     pub fn etcs_acknowledgement_name(number: u32) -> *const c_char;
     pub fn etcs_action_name(number: u32) -> *const c_char;
+    pub fn etcs_datum_name(number: u32) -> *const c_char;
     pub fn etcs_cold_name(number: u32) -> *const c_char;
     pub fn etcs_status_kind_name(number: u32) -> *const c_char;
     pub fn etcs_request_kind_name(number: u32) -> *const c_char;
@@ -837,7 +863,6 @@ extern "C" {
     pub fn etcs_unit_command(outputs: *const etcs_unit_output, count: u32, command: *mut etcs_unit_output) -> u32;
     pub fn etcs_dropped_name(variable: u32) -> *const c_char;
     pub fn etcs_kind_name(number: u32) -> *const c_char;
-    pub fn etcs_datum_name(number: u32) -> *const c_char;
     pub fn etcs_slot_state_name(number: u32) -> *const c_char;
     pub fn etcs_verdict_name(number: u32) -> *const c_char;
     pub fn etcs_record_field_name(number: u32) -> *const c_char;

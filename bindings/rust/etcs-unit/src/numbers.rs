@@ -525,6 +525,33 @@ impl Acknowledgement {
     }
 }
 
+/// Whether a datum may be relied on (SUBSET-026, 4.10).
+#[derive(Clone, Copy, Debug, Eq, Hash, Ord, PartialEq, PartialOrd)]
+#[repr(u32)]
+pub enum Datum {
+    Unknown = sys::ETCS_DATUM_UNKNOWN,
+    Valid = sys::ETCS_DATUM_VALID,
+    Invalid = sys::ETCS_DATUM_INVALID,
+}
+
+impl Datum {
+    /// The value with this number, if there is one.
+    pub fn of(number: u32) -> Option<Datum> {
+        match number {
+            sys::ETCS_DATUM_UNKNOWN => Some(Datum::Unknown),
+            sys::ETCS_DATUM_VALID => Some(Datum::Valid),
+            sys::ETCS_DATUM_INVALID => Some(Datum::Invalid),
+            _ => None,
+        }
+    }
+
+    /// Its name, as the programs print it.
+    pub fn name(self) -> &'static str {
+        // SAFETY: it returns the name of any number.
+        crate::text(unsafe { sys::etcs_datum_name(self as u32) })
+    }
+}
+
 /// What came of a telegram that may be of an installed track (etcs_telegram_adapt).
 #[derive(Clone, Copy, Debug, Eq, Hash, Ord, PartialEq, PartialOrd)]
 #[repr(u32)]
@@ -708,33 +735,6 @@ impl Kind {
     pub fn name(self) -> &'static str {
         // SAFETY: it returns the name of any number.
         crate::text(unsafe { sys::etcs_kind_name(self as u32) })
-    }
-}
-
-/// Whether a datum may be relied on (SUBSET-026, 4.10).
-#[derive(Clone, Copy, Debug, Eq, Hash, Ord, PartialEq, PartialOrd)]
-#[repr(u32)]
-pub enum Datum {
-    Unknown = sys::ETCS_DATUM_UNKNOWN,
-    Valid = sys::ETCS_DATUM_VALID,
-    Invalid = sys::ETCS_DATUM_INVALID,
-}
-
-impl Datum {
-    /// The value with this number, if there is one.
-    pub fn of(number: u32) -> Option<Datum> {
-        match number {
-            sys::ETCS_DATUM_UNKNOWN => Some(Datum::Unknown),
-            sys::ETCS_DATUM_VALID => Some(Datum::Valid),
-            sys::ETCS_DATUM_INVALID => Some(Datum::Invalid),
-            _ => None,
-        }
-    }
-
-    /// Its name, as the programs print it.
-    pub fn name(self) -> &'static str {
-        // SAFETY: it returns the name of any number.
-        crate::text(unsafe { sys::etcs_datum_name(self as u32) })
     }
 }
 

@@ -43,9 +43,6 @@ extern "C" {
 /** The bytes of a record's payload, at most. */
 #define ETCS_PAYLOAD_BYTES 104
 
-/** A time or a distance that has no end. */
-#define ETCS_ENDLESS UINT32_C(0xFFFFFFFF)
-
 /** What a slot holds (docs/reference/format.md). */
 enum etcs_slot_state {
     ETCS_SLOT_EMPTY = 0,      /**< all its bytes are zero */
@@ -60,9 +57,6 @@ enum etcs_slot_state {
 
 /** The kind of an event. */
 enum etcs_kind { ETCS_POWER_UP = 1, ETCS_TELEGRAM = 2, ETCS_ODOMETER = 3, ETCS_CLOCK = 4, ETCS_DRIVER = 5 };
-
-/** Whether a datum may be relied on (SUBSET-026, 4.10). */
-enum etcs_datum { ETCS_DATUM_UNKNOWN = 0, ETCS_DATUM_VALID = 1, ETCS_DATUM_INVALID = 2 };
 
 /** The result of replaying some events of one life through the kernel, or of comparing a head. */
 enum etcs_verdict {
@@ -138,42 +132,6 @@ typedef struct {
     uint32_t is_closed; /**< 1 where the gate is closed, else 0 */
     uint32_t reserved;  /**< zero */
 } etcs_slot_start;
-
-/** National values (SUBSET-026, 3.18.2). */
-typedef struct {
-    uint32_t shunting_m_per_h;              /**< V_NVSHUNT */
-    uint32_t staff_responsible_m_per_h;     /**< V_NVSTFF */
-    uint32_t on_sight_m_per_h;              /**< V_NVONSIGHT */
-    uint32_t unfitted_m_per_h;              /**< V_NVUNFIT */
-    uint32_t release_m_per_h;               /**< V_NVREL */
-    uint32_t roll_cm;                       /**< D_NVROLL */
-    uint32_t override_allowed_m_per_h;      /**< V_NVALLOWOVTRP */
-    uint32_t override_m_per_h;              /**< V_NVSUPOVTRP */
-    uint32_t override_distance_cm;          /**< D_NVOVTRP */
-    uint32_t override_time_ms;              /**< T_NVOVTRP, or ETCS_ENDLESS */
-    uint32_t staff_responsible_distance_cm; /**< D_NVSTFF, or ETCS_ENDLESS */
-    uint32_t count;                         /**< how many countries they are for, at most 32 */
-    uint16_t countries[32];                 /**< NID_C of each */
-} etcs_national;
-
-/** What a power-up after a block keeps (SUBSET-026, 4.10). What isn't known is zero. */
-typedef struct {
-    int64_t distance_cm; /**< the distance from the group to the estimated front */
-    etcs_train_data train; /**< train data, where has_train is 1 */
-    uint32_t running_number; /**< where has_running_number is 1 */
-    uint32_t country;    /**< NID_C of the group that the position refers to */
-    uint32_t group;      /**< NID_BG of that group */
-    uint8_t identity[16];    /**< of the driver */
-    uint8_t identity_len;    /**< 0 where no identity is known */
-    uint8_t has_running_number; /**< 1 where one is known, else 0 */
-    uint8_t has_train;       /**< 1 where train data are known, else 0 */
-    uint8_t level_status;    /**< enum etcs_datum */
-    uint8_t level;           /**< enum etcs_level */
-    uint8_t position_status; /**< enum etcs_datum */
-    uint8_t trip_outstanding; /**< 1 where a trip isn't acknowledged yet, else 0 */
-    uint8_t reserved;        /**< zero */
-    etcs_national national;  /**< the national values in force */
-} etcs_kept;
 
 /** The head of a block. */
 typedef struct {
@@ -254,9 +212,6 @@ typedef struct {
 ETCS_UNIT_ASSERT(sizeof(etcs_image) == 32u && offsetof(etcs_image, newest) == 24u);
 ETCS_UNIT_ASSERT(sizeof(etcs_slot) == 32u && offsetof(etcs_slot, state) == 16u && offsetof(etcs_slot, fault_record) == 28u);
 ETCS_UNIT_ASSERT(sizeof(etcs_slot_start) == 16u && offsetof(etcs_slot_start, is_closed) == 8u && offsetof(etcs_slot_start, reserved) == 12u);
-ETCS_UNIT_ASSERT(sizeof(etcs_national) == 112u && offsetof(etcs_national, count) == 44u && offsetof(etcs_national, countries) == 48u);
-ETCS_UNIT_ASSERT(sizeof(etcs_kept) == 176u && offsetof(etcs_kept, train) == 8u && offsetof(etcs_kept, running_number) == 28u
-                 && offsetof(etcs_kept, identity) == 40u && offsetof(etcs_kept, identity_len) == 56u && offsetof(etcs_kept, national) == 64u);
 ETCS_UNIT_ASSERT(sizeof(etcs_block) == 208u && offsetof(etcs_block, lives) == 24u && offsetof(etcs_block, format) == 28u && offsetof(etcs_block, kept) == 32u);
 ETCS_UNIT_ASSERT(sizeof(etcs_record) == 160u && offsetof(etcs_record, limit_m_per_h) == 40u && offsetof(etcs_record, format) == 48u
                  && offsetof(etcs_record, payload_len) == 55u && offsetof(etcs_record, payload) == 56u);
@@ -283,12 +238,6 @@ uint32_t etcs_image_why_(const uint8_t *image, uint64_t size, uint32_t abi, uint
 /** Returns the name of a number of enum etcs_kind; "unknown" for other numbers. */
 static inline const char *etcs_kind_name(uint32_t number) {
     static const char *const names[] = {NULL, "powerup", "telegram", "odometer", "clock", "driver"};
-    return etcs_name_(names, (uint32_t)(sizeof names / sizeof names[0]), number);
-}
-
-/** Returns the name of a number of enum etcs_datum; "unknown" for other numbers. */
-static inline const char *etcs_datum_name(uint32_t number) {
-    static const char *const names[] = {"unknown", "valid", "invalid"};
     return etcs_name_(names, (uint32_t)(sizeof names / sizeof names[0]), number);
 }
 

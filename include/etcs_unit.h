@@ -395,6 +395,65 @@ typedef struct {
     uint8_t reserved[4];                /**< zeros */
 } etcs_unit_why_info;
 
+/** A time or a distance that has no end. */
+#define ETCS_ENDLESS UINT32_C(0xFFFFFFFF)
+
+/** Whether a datum may be relied on (SUBSET-026, 4.10). */
+enum etcs_datum { ETCS_DATUM_UNKNOWN = 0, ETCS_DATUM_VALID = 1, ETCS_DATUM_INVALID = 2 };
+
+/** One more than the greatest number of enum etcs_action. */
+#define ETCS_ACTIONS 16
+
+/** National values (SUBSET-026, 3.18.2). */
+typedef struct {
+    uint32_t shunting_m_per_h;              /**< V_NVSHUNT */
+    uint32_t staff_responsible_m_per_h;     /**< V_NVSTFF */
+    uint32_t on_sight_m_per_h;              /**< V_NVONSIGHT */
+    uint32_t unfitted_m_per_h;              /**< V_NVUNFIT */
+    uint32_t release_m_per_h;               /**< V_NVREL */
+    uint32_t roll_cm;                       /**< D_NVROLL */
+    uint32_t override_allowed_m_per_h;      /**< V_NVALLOWOVTRP */
+    uint32_t override_m_per_h;              /**< V_NVSUPOVTRP */
+    uint32_t override_distance_cm;          /**< D_NVOVTRP */
+    uint32_t override_time_ms;              /**< T_NVOVTRP, or ETCS_ENDLESS */
+    uint32_t staff_responsible_distance_cm; /**< D_NVSTFF, or ETCS_ENDLESS */
+    uint32_t count;                         /**< how many countries they are for, at most 32 */
+    uint16_t countries[32];                 /**< NID_C of each */
+} etcs_national;
+
+/** What a power-up keeps (SUBSET-026, 4.10). What isn't known is zero. */
+typedef struct {
+    int64_t distance_cm; /**< the distance from the group to the estimated front */
+    etcs_train_data train; /**< train data, where has_train is 1 */
+    uint32_t running_number; /**< where has_running_number is 1 */
+    uint32_t country;    /**< NID_C of the group that the position refers to */
+    uint32_t group;      /**< NID_BG of that group */
+    uint8_t identity[16];    /**< of the driver */
+    uint8_t identity_len;    /**< 0 where no identity is known */
+    uint8_t has_running_number; /**< 1 where one is known, else 0 */
+    uint8_t has_train;       /**< 1 where train data are known, else 0 */
+    uint8_t level_status;    /**< enum etcs_datum */
+    uint8_t level;           /**< enum etcs_level */
+    uint8_t position_status; /**< enum etcs_datum */
+    uint8_t trip_outstanding; /**< 1 where a trip isn't acknowledged yet, else 0 */
+    uint8_t reserved;        /**< zero */
+    etcs_national national;  /**< the national values in force */
+} etcs_kept;
+
+/** What the driver entered, and which actions of the driver the unit would accept as its next input. */
+typedef struct {
+    etcs_kept kept;             /**< what the next power-up would find. Identity, running number and train data are never valid after one, so
+                                     only their values are kept, and whether they are valid now isn't reported */
+    uint32_t speed_m_per_h;     /**< of the last reading of this life; 0 before one */
+    uint8_t mode;               /**< enum etcs_mode */
+    uint8_t accepts[ETCS_ACTIONS]; /**< 1 of each enum etcs_action that would be accepted, at the place of its number, else 0 */
+    uint8_t accepts_identity;   /**< 1 where etcs_unit_identity would be, whatever its value, else 0 */
+    uint8_t accepts_running_number; /**< the same of etcs_unit_running_number */
+    uint8_t accepts_train_data; /**< the same of etcs_unit_train_data */
+    uint8_t is_revalidated;     /**< 1 where the driver has revalidated since the power-up (SUBSET-026, 5.4), else 0: the emergency brake */
+    uint8_t reserved[7];        /**< zeros */
+} etcs_unit_driver_info;
+
 /** What came of a telegram that may be of an installed track (etcs_telegram_adapt). */
 enum etcs_adaptation {
     ETCS_ADAPTATION_NONE = 0,        /**< it has no packet 3 as a track of issue 2.3.0 sends it: hand it on as it is */
@@ -468,6 +527,13 @@ ETCS_UNIT_ASSERT(sizeof(etcs_unit_why_info) == 144u && offsetof(etcs_unit_why_in
                  && offsetof(etcs_unit_why_info, holds) == 120u && offsetof(etcs_unit_why_info, limit_cause) == 130u
                  && offsetof(etcs_unit_why_info, level_0) == 137u && offsetof(etcs_unit_why_info, has_override) == 138u
                  && offsetof(etcs_unit_why_info, reserved) == 140u);
+ETCS_UNIT_ASSERT(sizeof(etcs_national) == 112u && offsetof(etcs_national, count) == 44u && offsetof(etcs_national, countries) == 48u);
+ETCS_UNIT_ASSERT(sizeof(etcs_kept) == 176u && offsetof(etcs_kept, train) == 8u && offsetof(etcs_kept, running_number) == 28u
+                 && offsetof(etcs_kept, identity) == 40u && offsetof(etcs_kept, identity_len) == 56u && offsetof(etcs_kept, national) == 64u);
+ETCS_UNIT_ASSERT(sizeof(etcs_unit_driver_info) == 208u && offsetof(etcs_unit_driver_info, speed_m_per_h) == 176u
+                 && offsetof(etcs_unit_driver_info, mode) == 180u && offsetof(etcs_unit_driver_info, accepts) == 181u
+                 && offsetof(etcs_unit_driver_info, accepts_identity) == 197u && offsetof(etcs_unit_driver_info, is_revalidated) == 200u
+                 && offsetof(etcs_unit_driver_info, reserved) == 201u);
 ETCS_UNIT_ASSERT(sizeof(etcs_adapted) == 16u && offsetof(etcs_adapted, len) == 4u && offsetof(etcs_adapted, start) == 8u && offsetof(etcs_adapted, bits) == 12u);
 ETCS_UNIT_ASSERT(sizeof(etcs_value_dropped) == 16u && offsetof(etcs_value_dropped, variable) == 8u && offsetof(etcs_value_dropped, bits) == 12u);
 ETCS_UNIT_ASSERT(sizeof(etcs_packet_unused) == 24u && offsetof(etcs_packet_unused, bits) == 8u && offsetof(etcs_packet_unused, number) == 16u
@@ -499,6 +565,7 @@ uint32_t etcs_unit_fail_(etcs_unit *unit);
 uint32_t etcs_unit_release_(etcs_unit *unit, etcs_unit_output *outputs, uint64_t room, uint32_t *count);
 uint32_t etcs_unit_state_(etcs_unit *unit, etcs_unit_state_info *state);
 uint32_t etcs_unit_why_(etcs_unit *unit, etcs_unit_why_info *why);
+uint32_t etcs_unit_driver_(etcs_unit *unit, etcs_unit_driver_info *driver);
 uint32_t etcs_unit_close_(etcs_unit *unit);
 uint32_t etcs_unit_format_request_(uint32_t slots, uint32_t index, etcs_unit_request_info *request, uint8_t *bytes, uint64_t room);
 uint32_t etcs_telegram_adapt_(const uint8_t *bytes, uint64_t len, uint8_t *out, uint64_t room, etcs_adapted *told);
@@ -601,6 +668,12 @@ static inline const char *etcs_action_name(uint32_t number) {
         "confirm_level", "start", "choose_shunting", "leave_shunting", "override", "acknowledge_trip",
         "acknowledge_on_sight", "acknowledge_shunting", "acknowledge_level_0", "close_desk"
     };
+    return etcs_name_(names, (uint32_t)(sizeof names / sizeof names[0]), number);
+}
+
+/** Returns the name of a number of enum etcs_datum; "unknown" for other numbers. */
+static inline const char *etcs_datum_name(uint32_t number) {
+    static const char *const names[] = {"unknown", "valid", "invalid"};
     return etcs_name_(names, (uint32_t)(sizeof names / sizeof names[0]), number);
 }
 
@@ -927,6 +1000,14 @@ static inline uint32_t etcs_unit_state(etcs_unit *unit, etcs_unit_state_info *st
  * an input is pending or requests aren't released; `why` is written only with OK. */
 static inline uint32_t etcs_unit_why(etcs_unit *unit, etcs_unit_why_info *why) {
     return ((unit != NULL) && (why != NULL)) ? etcs_unit_why_(unit, why) : (uint32_t)ETCS_UNIT_NULL_POINTER;
+}
+
+/** Reports what the driver entered, and which actions of the driver the unit would accept as its next input. An action that isn't
+ * accepted has no effect, though the call that hands it in answers OK: so disable its key. Call it after a release; it takes no
+ * memory and changes nothing. Returns OK, NOT_OPEN, or NOT_RELEASED, exactly while an input is pending or requests aren't
+ * released; `driver` is written only with OK. */
+static inline uint32_t etcs_unit_driver(etcs_unit *unit, etcs_unit_driver_info *driver) {
+    return ((unit != NULL) && (driver != NULL)) ? etcs_unit_driver_(unit, driver) : (uint32_t)ETCS_UNIT_NULL_POINTER;
 }
 
 /** Closes the unit, and gives its memory back. Call it at the end, and after a failure before the unit is opened again.

@@ -15,27 +15,12 @@ from dataclasses import dataclass
 from pathlib import Path
 
 from . import unit
-from .unit import Brake, Level, Record, Refused, Status, TrainData
+from .unit import Brake, Kept, Record, Refused, Status
 from .units import _header
 from .units._header import BrakeCause, Datum, KeptField, LimitCause, RecordField, TripCause, Verdict
 
 __all__ = ["BrakeCause", "Datum", "Difference", "Kept", "KeptField", "LimitCause", "Line", "RecordField", "TripCause",
            "Verdict", "Why", "lines", "replay", "why", "why_at", "why_in"]
-
-@dataclass(frozen=True, slots=True)
-class Kept:
-    """The kept data of a head, or of the kernel. The position is a country, a group, and the distance of the front beyond the
-    group in cm; the national values are in the order of etcs_national, None for one without an end."""
-
-    trip_outstanding: bool
-    identity: bytes | None
-    running_number: int | None
-    train: TrainData | None
-    level: tuple[Datum, Level | None]
-    position: tuple[Datum, tuple[int, int, int] | None]
-    national: tuple[int | None, ...]
-    countries: tuple[int, ...]
-
 
 @dataclass(frozen=True, slots=True)
 class Difference:
@@ -79,30 +64,13 @@ class Why:
     restriction: int | None
 
 
-def _level(status: int, level: int) -> tuple[Datum, Level | None]:
-    return Datum(status), Level(level) if status else None
-
-
-def _kept(kept: _header.etcs_kept) -> Kept:
-    values = kept.national
-    numbers = [int(getattr(values, name)) for name, *_ in values._fields_[:11]]
-    position = (kept.country, kept.group, kept.distance_cm) if kept.position_status else None
-    return Kept(
-        kept.trip_outstanding != 0, bytes(kept.identity[:kept.identity_len]) or None,
-        kept.running_number if kept.has_running_number else None,
-        TrainData(*(getattr(kept.train, name) for name, *_ in kept.train._fields_)) if kept.has_train else None,
-        _level(kept.level_status, kept.level), (Datum(kept.position_status), position),
-        tuple(None if at > 8 and number == _header.ENDLESS else number for at, number in enumerate(numbers)),
-        tuple(values.countries[:values.count]))
-
-
 def _line(info: _header.etcs_replay) -> Line:
     verdict, difference = Verdict(info.verdict), None
     first, last = info.first_event, info.last_event
     if verdict == Verdict.RECORD_DIFFERS:
         difference = Difference(info.block, info.event, RecordField(info.field), unit._record(info.journal), unit._record(info.kernel))
     if verdict == Verdict.HEAD_DIFFERS:
-        difference = Difference(info.block, None, KeptField(info.field), _kept(info.journal_kept), _kept(info.kernel_kept))
+        difference = Difference(info.block, None, KeptField(info.field), unit._kept(info.journal_kept), unit._kept(info.kernel_kept))
         first, last = None, None
     return Line(info.life, first, last, verdict, difference)
 

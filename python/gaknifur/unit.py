@@ -32,13 +32,13 @@ from .locks import lock
 from .program import TOP
 from .units import _header
 from .units._header import (ABI, BUILD_INFO_BYTES, OUTPUTS, REQUEST_BYTES, SECTOR, TELEGRAM_BYTES, VERSION_BYTES, Acknowledgement,
-                            Action, Adaptation, Brake, BrakeCause, Cold, Direction, DroppedVariable, Indication, Kind, Level,
+                            Action, Adaptation, Brake, BrakeCause, Cold, Datum, Direction, DroppedVariable, Indication, Kind, Level,
                             LimitCause, Mode, Proof, RequestKind, SlotState, Status, UnusedReason)
 
 __all__ = ["ABI", "OUTPUTS", "REQUEST_BYTES", "SECTOR", "VERSION_BYTES", "Acknowledgement", "Action", "AnyUnit", "Brake",
-           "BrakeCause", "Cold", "Facts", "FileMedium", "Indication", "Kind", "Level", "LimitCause", "Medium", "MemoryMedium",
-           "Mode", "Opening", "Output", "OverrideLeft", "Proof", "Record", "Refused", "SectorMedium", "SectorUnit", "Slot",
-           "SlotState", "State", "Status", "Target", "TrainData", "Unit", "UnitWhy", "Waiting", "Writable", "build_info",
+           "BrakeCause", "Cold", "Datum", "Facts", "FileMedium", "Indication", "Kept", "Kind", "Level", "LimitCause", "Medium",
+           "MemoryMedium", "Mode", "Opening", "Output", "OverrideLeft", "Proof", "Record", "Refused", "SectorMedium", "SectorUnit", "Slot",
+           "SlotState", "State", "Status", "Target", "TrainData", "Unit", "UnitDriver", "UnitWhy", "Waiting", "Writable", "build_info",
            "build_proof", "decode", "facts", "first_request", "format_medium", "journal", "library", "records", "slots",
            "version"]
 
@@ -130,6 +130,36 @@ class UnitWhy:
     shunting: Waiting
     level_0: Waiting
     override: OverrideLeft | None = None
+
+
+@dataclass(frozen=True, slots=True)
+class Kept:
+    """What a power-up keeps. The position is a country, a group, and the distance of the front beyond the
+    group in cm; the national values are in the order of etcs_national, None for one without an end."""
+
+    trip_outstanding: bool
+    identity: bytes | None
+    running_number: int | None
+    train: TrainData | None
+    level: tuple[Datum, Level | None]
+    position: tuple[Datum, tuple[int, int, int] | None]
+    national: tuple[int | None, ...]
+    countries: tuple[int, ...]
+
+
+@dataclass(frozen=True, slots=True)
+class UnitDriver:
+    """What the driver entered, and which actions of the driver the unit would accept as its next input. Identity, running number
+    and train data are never valid after a power-up: `kept` has only their values."""
+
+    kept: Kept
+    speed_m_per_h: int
+    mode: Mode
+    accepts: frozenset[Action]
+    accepts_identity: bool
+    accepts_running_number: bool
+    accepts_train_data: bool
+    is_revalidated: bool
 
 
 @dataclass(frozen=True, slots=True)
@@ -393,6 +423,29 @@ def _unit_why(info: _header.etcs_unit_why_info) -> UnitWhy:
         Target(info.target_m_per_h, info.target_distance_cm) if info.has_target else None,
         info.release_m_per_h if info.has_release else None, waiting("on_sight"), waiting("shunting"), waiting("level_0"),
         OverrideLeft(info.override_ms if info.override_ends else None, info.override_cm) if info.has_override else None)
+
+
+def _level(status: int, level: int) -> tuple[Datum, Level | None]:
+    return Datum(status), Level(level) if status else None
+
+
+def _kept(kept: _header.etcs_kept) -> Kept:
+    values = kept.national
+    numbers = [int(getattr(values, name)) for name, *_ in values._fields_[:11]]
+    position = (kept.country, kept.group, kept.distance_cm) if kept.position_status else None
+    return Kept(
+        kept.trip_outstanding != 0, bytes(kept.identity[:kept.identity_len]) or None,
+        kept.running_number if kept.has_running_number else None,
+        TrainData(*(getattr(kept.train, name) for name, *_ in kept.train._fields_)) if kept.has_train else None,
+        _level(kept.level_status, kept.level), (Datum(kept.position_status), position),
+        tuple(None if at > 8 and number == _header.ENDLESS else number for at, number in enumerate(numbers)),
+        tuple(values.countries[:values.count]))
+
+
+def _unit_driver(info: _header.etcs_unit_driver_info) -> UnitDriver:
+    return UnitDriver(_kept(info.kept), info.speed_m_per_h, Mode(info.mode), frozenset(one for one in Action if info.accepts[one]),
+                      info.accepts_identity != 0, info.accepts_running_number != 0, info.accepts_train_data != 0,
+                      info.is_revalidated != 0)
 
 
 def _carry_out(medium: Writable, request: _header.etcs_unit_request_info, buffer: ctypes.Array[ctypes.c_char]) -> None:
@@ -692,6 +745,12 @@ class AnyUnit(_Handle, ABC):
         info = _header.etcs_unit_why_info()
         self._call("why", ctypes.byref(info))
         return _unit_why(info)
+
+    def driver(self) -> UnitDriver:
+        """What the driver entered, and which actions of the driver the unit would accept now. NOT_RELEASED as for `why`."""
+        info = _header.etcs_unit_driver_info()
+        self._call("driver", ctypes.byref(info))
+        return _unit_driver(info)
 
 
 class Unit(AnyUnit):

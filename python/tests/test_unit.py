@@ -16,8 +16,8 @@ from unittest import mock
 import gaknifur
 from gaknifur import lives, unit as units
 from gaknifur.lives import BrakeCause, Datum, KeptField, LimitCause, RecordField, TripCause, Verdict
-from gaknifur.unit import (Acknowledgement, Action, AnyUnit, Brake, Cold, FileMedium, Indication, Kind, Level, MemoryMedium, Mode,
-                           Opening, Output, Record, Refused, SectorUnit, SlotState, Status, TrainData, Unit, UnitWhy, Waiting)
+from gaknifur.unit import (Acknowledgement, Action, AnyUnit, Brake, Cold, FileMedium, Indication, Kept, Kind, Level, MemoryMedium, Mode,
+                           Opening, Output, Record, Refused, SectorUnit, SlotState, Status, TrainData, Unit, UnitDriver, UnitWhy, Waiting)
 from gaknifur.units._header import Adaptation, Direction, DroppedVariable, Fault, Proof, RequestKind, Source, StatusKind, UnusedReason
 
 INCLUDE = Path(__file__).resolve().parents[2] / "include"
@@ -33,7 +33,7 @@ class Names(unittest.TestCase):
     def test_enums(self) -> None:
         enums: list[type[enum.IntEnum | enum.IntFlag]] = [
             Fault, Proof, Status, StatusKind, Source, Cold, Action, Mode, Level, Brake, Indication, RequestKind, BrakeCause, LimitCause,
-            Acknowledgement, Adaptation, DroppedVariable, Direction, UnusedReason, SlotState, Kind, Datum, Verdict, RecordField, KeptField,
+            Acknowledgement, Datum, Adaptation, DroppedVariable, Direction, UnusedReason, SlotState, Kind, Verdict, RecordField, KeptField,
             TripCause]
         text = "".join((INCLUDE / name).read_text() for name in ("etcs.h", "etcs_unit.h", "etcs_image.h"))
         bodies = re.findall(r"^enum \w+ \{(.*?)\};", text, re.DOTALL | re.MULTILINE)
@@ -130,7 +130,7 @@ class BySectors(OverTheLibrary):
                         unit.clock(moment)
                         unit.odometer(-10, 300)
                         outputs[-1].append(unit.flush())
-                    outputs[-1] += [unit.state(), unit.why(), unit.flush()]
+                    outputs[-1] += [unit.state(), unit.why(), unit.driver(), unit.flush()]
             self.assertEqual(outputs[0], outputs[1])
             self.assertEqual(media[0].data, media[1].data)
 
@@ -490,6 +490,39 @@ class Calls(OverTheLibrary):
                                                  LimitCause.NO_SPEED, 0, None, None, None, None, *nobody))
         with self.refused(Status.NOT_OPEN):
             unit.why()
+
+    def test_the_driver_of_a_unit(self) -> None:
+        """By hand: what was entered, and what is accepted in Stand By, in Staff Responsible and after a power-up of a train that was moved."""
+        national = (30_000, 40_000, 30_000, 100_000, 40_000, 200, 0, 30_000, 20_000, 60_000, None)
+        nothing = Kept(False, None, None, None, (Datum.UNKNOWN, None), (Datum.UNKNOWN, None), national, ())
+        levels = {Action.CHOOSE_LEVEL_0, Action.CHOOSE_LEVEL_1}
+        confirms = {Action.CONFIRM_IDENTITY, Action.CONFIRM_TRAIN_DATA, Action.CONFIRM_LEVEL}
+        medium = MemoryMedium.formatted(4)
+        with Unit(medium) as unit:
+            self.assertEqual(unit.driver(), UnitDriver(nothing, 0, Mode.STAND_BY, frozenset(levels), True, True, True, False))
+            unit.odometer(10, 300)
+            with self.refused(Status.NOT_RELEASED):
+                unit.driver()
+            unit.flush()
+            self.assertEqual(unit.driver(), UnitDriver(nothing, 300, Mode.STAND_BY, frozenset(), False, False, False, False))
+            unit.odometer(0, 0)
+            unit.identity("IC 704")
+            unit.train_data(TRAIN)
+            unit.action(Action.CHOOSE_LEVEL_1)
+            unit.flush()
+            entered = Kept(False, b"IC 704", None, TRAIN, (Datum.VALID, Level.LEVEL_1), (Datum.UNKNOWN, None), national, ())
+            leaves = {Action.START, Action.CHOOSE_SHUNTING}
+            self.assertEqual(unit.driver(), UnitDriver(entered, 0, Mode.STAND_BY, frozenset(levels | confirms | leaves), True, True, True, False))
+            unit.action(Action.START)
+            unit.flush()
+            accepted = frozenset({Action.CHOOSE_SHUNTING, Action.OVERRIDE, Action.CLOSE_DESK})
+            self.assertEqual(unit.driver(), UnitDriver(entered, 0, Mode.STAFF_RESPONSIBLE, accepted, False, False, False, True))
+        with self.refused(Status.NOT_OPEN):
+            unit.driver()
+        with Unit(medium, Cold.MOVED) as unit:
+            driver = unit.driver()
+            self.assertEqual((driver.kept.level, driver.kept.identity, driver.kept.train), ((Datum.INVALID, Level.LEVEL_1), b"IC 704", TRAIN))
+            self.assertEqual((driver.accepts, driver.is_revalidated), (levels | confirms, False))
 
     def test_the_version(self) -> None:
         changes = HEADER.parents[1] / "CHANGELOG.md"

@@ -214,6 +214,7 @@ static int about_units(uint32_t *status) {
     etcs_unit_request_info request;
     etcs_unit_state_info state;
     etcs_unit_why_info why;
+    etcs_unit_driver_info driver;
     uint32_t first, second;
     if (word("open")) {
         *status = opens((uint32_t)number());
@@ -265,6 +266,10 @@ static int about_units(uint32_t *status) {
         *status = etcs_unit_why(unit(), &why);
         if (*status == ETCS_UNIT_OK)
             add_etcs_unit_why_info(&why);
+    } else if (word("keys")) {
+        *status = etcs_unit_driver(unit(), &driver);
+        if (*status == ETCS_UNIT_OK)
+            add_etcs_unit_driver_info(&driver);
     } else {
         return 0;
     }

@@ -51,13 +51,13 @@ def life(r):
             lines.append("flush")
             pending = 0
         if one != "flush":
-            lines.append(one)
+            lines += [one, "keys"]
             pending += 1
     lines.append("flush")
     if r.randrange(2):
         at = r.choice([place for place, one in enumerate(lines) if one == "flush"])
         return [*lines[:at], f"cut {r.randrange(9)} {r.randrange(4_097)}", "image"]
-    return [*lines, "state", "explain", "close", "image"]
+    return [*lines, "state", "explain", "keys", "close", "image"]
 
 
 def reading(r):
@@ -81,7 +81,7 @@ def call(r):
                          f"telegram {r.randbytes(r.choice((0, 1, 104, 105, 250))).hex()}"))
     if kind < 24:
         return r.choice((f"request {r.randrange(5)} {r.choice((0, 511, 512, 8_192))}", f"request {wild(r)} {wild(r)}", f"done {wild(r)}", f"release {wild(r)}",
-                         "state", "explain", f"version {wild(r)}", f"build {wild(r)}", f"format {wild(r)} {wild(r)} {wild(r)}", f"unit {r.randrange(2)}", f"medium {r.randrange(2)}"))
+                         "state", "explain", "keys", f"version {wild(r)}", f"build {wild(r)}", f"format {wild(r)} {wild(r)} {wild(r)}", f"unit {r.randrange(2)}", f"medium {r.randrange(2)}"))
     if kind < 28:
         return r.choice((f"begins {r.randrange(3)}", f"begins {r.randrange(3)}", "goes 0", f"goes {r.randrange(40)}", f"goes {1 << 10}", f"goes {1 << 10}", "wanted",
                          f"kind {r.randrange(2)}", f"open {r.randrange(3)}", "wants"))

@@ -5,6 +5,7 @@ static etcs_unit_output outputs[ETCS_UNIT_OUTPUTS];
 static etcs_unit_request_info request;
 static etcs_unit_state_info state;
 static etcs_unit_why_info why;
+static etcs_unit_driver_info driver;
 static uint8_t bytes[ETCS_UNIT_REQUEST_BYTES];
 static uint32_t count;
 static const uint8_t telegram[ETCS_TELEGRAM_BYTES + 1] = {0x90, 0x00, 0x7F, 0x80, 0x20, 0x01, 0x7F, 0xC0};
@@ -56,6 +57,8 @@ static void null_pointers(medium *on) {
     is("state, no output", etcs_unit_state(&unit, NULL), wanted);
     is("why, no unit", etcs_unit_why(NULL, &why), wanted);
     is("why, no output", etcs_unit_why(&unit, NULL), wanted);
+    is("driver, no unit", etcs_unit_driver(NULL, &driver), wanted);
+    is("driver, no output", etcs_unit_driver(&unit, NULL), wanted);
     is("close, no unit", etcs_unit_close(NULL), wanted);
     is("format, no output", etcs_unit_format_request(4, 0, NULL, bytes, 512), wanted);
     is("format, no bytes", etcs_unit_format_request(4, 0, &request, NULL, 512), wanted);
@@ -67,7 +70,8 @@ static void untouched(const char *what) {
     memset(other, 0xAA, sizeof other);
     is(what, (uint64_t)memcmp(outputs, other, sizeof outputs) | (uint64_t)memcmp(&count, other, sizeof count) |
        (uint64_t)memcmp(&request, other, sizeof request) | (uint64_t)memcmp(&state, other, sizeof state) |
-       (uint64_t)memcmp(&why, other, sizeof why) | (uint64_t)memcmp(bytes, other, sizeof bytes), 0);
+       (uint64_t)memcmp(&why, other, sizeof why) | (uint64_t)memcmp(&driver, other, sizeof driver) |
+       (uint64_t)memcmp(bytes, other, sizeof bytes), 0);
 }
 
 static void touch(void) {
@@ -76,6 +80,7 @@ static void touch(void) {
     memset(&request, 0xAA, sizeof request);
     memset(&state, 0xAA, sizeof state);
     memset(&why, 0xAA, sizeof why);
+    memset(&driver, 0xAA, sizeof driver);
     memset(bytes, 0xAA, sizeof bytes);
 }
 
@@ -105,6 +110,7 @@ static void not_open(etcs_unit *unit) {
     is("release, not open", etcs_unit_release(unit, outputs, ETCS_UNIT_OUTPUTS, &count), wanted);
     is("state, not open", etcs_unit_state(unit, &state), wanted);
     is("why, not open", etcs_unit_why(unit, &why), wanted);
+    is("driver, not open", etcs_unit_driver(unit, &driver), wanted);
     is("close, not open", etcs_unit_close(unit), wanted);
     untouched("a call on a unit that isn't open writes nothing");
 }
@@ -411,6 +417,7 @@ static void relaying(medium *on) {
     is("room for 7", etcs_unit_release(&unit, outputs, 7, &count), ETCS_UNIT_NO_ROOM);
     is("room for none", etcs_unit_release(&unit, outputs, 0, &count), ETCS_UNIT_NO_ROOM);
     is("why, before the power-up is done", etcs_unit_why(&unit, &why), ETCS_UNIT_NOT_RELEASED);
+    is("driver, before the power-up is done", etcs_unit_driver(&unit, &driver), ETCS_UNIT_NOT_RELEASED);
     is("after the list", etcs_unit_request(&unit, requests, &request, bytes, sizeof bytes), ETCS_UNIT_NO_SUCH_REQUEST);
     is("far after the list", etcs_unit_request(&unit, UINT32_MAX, &request, bytes, sizeof bytes), ETCS_UNIT_NO_SUCH_REQUEST);
     untouched("a refusal writes nothing");
@@ -440,6 +447,7 @@ static void relaying(medium *on) {
     is("release before the last one is done", etcs_unit_release(&unit, outputs, 8, &count), ETCS_UNIT_REQUESTS_OWED);
     touch();
     is("why, before the last one is done", etcs_unit_why(&unit, &why), ETCS_UNIT_NOT_RELEASED);
+    is("driver, before the last one is done", etcs_unit_driver(&unit, &driver), ETCS_UNIT_NOT_RELEASED);
     untouched("why writes nothing before a release");
     is("an input meanwhile", etcs_unit_clock(&unit, 1), ETCS_UNIT_OK);
     is("state", etcs_unit_state(&unit, &state), ETCS_UNIT_OK);
@@ -450,6 +458,7 @@ static void relaying(medium *on) {
     is("a power-up releases nothing", count, 0);
     touch();
     is("why, with one pending", etcs_unit_why(&unit, &why), ETCS_UNIT_NOT_RELEASED);
+    is("driver, with one pending", etcs_unit_driver(&unit, &driver), ETCS_UNIT_NOT_RELEASED);
     count = 0xAAAAAAAA;
     untouched("why writes nothing with one pending");
     count = 0;
@@ -463,6 +472,7 @@ static void relaying(medium *on) {
     is("state", etcs_unit_state(&unit, &state), ETCS_UNIT_OK);
     is("eight are held back", state.held, 8);
     is("why, while they are held back", etcs_unit_why(&unit, &why), ETCS_UNIT_NOT_RELEASED);
+    is("driver, while they are held back", etcs_unit_driver(&unit, &driver), ETCS_UNIT_NOT_RELEASED);
     is("none is pending", state.pending, 0);
     is("an input while requests are owed", etcs_unit_clock(&unit, 3), ETCS_UNIT_OK);
     is("carry out", carry_out(on, &unit), ETCS_UNIT_OK);
@@ -485,6 +495,11 @@ static void relaying(medium *on) {
     for (int i = 0; i < ETCS_BRAKE_CAUSES; i++)
         is("a cause", why.holds[i], i == ETCS_CAUSE_NOT_REVALIDATED);
     is("no acknowledgement", (uint64_t)why.on_sight | why.shunting | why.level_0, ETCS_ACKNOWLEDGEMENT_NONE);
+    /* by hand: Stand By at standstill, where a level may be chosen, and each item confirmed, since a life before entered them (limits) */
+    is("driver", etcs_unit_driver(&unit, &driver), ETCS_UNIT_OK);
+    is("its mode", driver.mode, ETCS_STAND_BY);
+    for (uint32_t i = 0; i < ETCS_ACTIONS; i++)
+        is("an action that is accepted", driver.accepts[i], i >= ETCS_CHOOSE_LEVEL_0 && i <= ETCS_CONFIRM_LEVEL);
     is("why, again", etcs_unit_why(&unit, &why), ETCS_UNIT_OK);
     /* -30 cm and 8,000 cm: the twentieth part of a path of 8,030 cm is 401.5 */
     is("backward", etcs_unit_odometer(&unit, -30, 300), ETCS_UNIT_OK);
@@ -514,6 +529,7 @@ static void failing(medium *on) {
     is("the medium failed", etcs_unit_fail(&unit), ETCS_UNIT_OK);
     touch();
     is("why after a failure", etcs_unit_why(&unit, &why), ETCS_UNIT_NOT_RELEASED);
+    is("driver after a failure", etcs_unit_driver(&unit, &driver), ETCS_UNIT_NOT_RELEASED);
     is("release after a failure", etcs_unit_release(&unit, outputs, 8, &count), ETCS_UNIT_FAILED);
     is("room for 7 after a failure", etcs_unit_release(&unit, outputs, 7, &count), ETCS_UNIT_NO_ROOM);
     untouched("nothing is released after a failure");

@@ -1,1 +1,3 @@
+pub mod KeptItems
+pub mod NationalItems
 pub mod Numbers

@@ -2,10 +2,10 @@
 use c_numbers::abi_call;
 use std::alloc::Global;
 use unit_calls::{
-    EtcsOutput, EtcsRequest, EtcsState, EtcsTrainData, EtcsUnit, EtcsUnitWhy, action_call,
-    clock_call, close_call, done_call, fail_call, format_request_call, identity_call,
+    EtcsOutput, EtcsRequest, EtcsState, EtcsTrainData, EtcsUnit, EtcsUnitDriver, EtcsUnitWhy,
+    action_call, clock_call, close_call, done_call, fail_call, format_request_call, identity_call,
     odometer_call, open_call, prepare_call, release_call, request_call, running_number_call,
-    state_call, telegram_call, train_data_call, unit_why_call, version_call,
+    state_call, telegram_call, train_data_call, unit_driver_call, unit_why_call, version_call,
 };
 
 /// Takes the bytes that a balise sent.
@@ -112,6 +112,12 @@ pub extern "C" fn etcs_unit_state_(unit: &mut EtcsUnit, state: &mut EtcsState) -
 #[unsafe(no_mangle)]
 pub extern "C" fn etcs_unit_why_(unit: &mut EtcsUnit, why: &mut EtcsUnitWhy) -> u32 {
     unit_why_call(unit, why).number()
+}
+
+/// Reports what the driver entered, and which actions of the driver would be accepted.
+#[unsafe(no_mangle)]
+pub extern "C" fn etcs_unit_driver_(unit: &mut EtcsUnit, driver: &mut EtcsUnitDriver) -> u32 {
+    unit_driver_call(unit, driver).number()
 }
 
 /// The number of this interface.

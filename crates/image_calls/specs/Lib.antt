@@ -5,11 +5,9 @@ pub mod Facts
 pub mod ImageDisk
 pub mod Images
 pub mod Journals
-pub mod KeptItems
 pub mod Lines
 pub mod Links
 pub mod Lived
-pub mod NationalItems
 pub mod Numbers
 pub mod Records
 pub mod Replays

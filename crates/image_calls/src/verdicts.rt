@@ -3,10 +3,9 @@ ghost use Rattle.std.specs.Prelude.{◌≡◌};
 ghost use Rattle.image_calls.specs.Verdicts.{record_field_number, kept_field_number, unknown_number, verdict_of, no_record, no_kept, no_line};
 ghost use Rattle.image_calls.specs.Verdicts.{verdict_reported, record_differs, DescribesHead};
 
-use crate::kept_items::{EtcsKept, kept_reported, train_reported};
-use crate::national_items::EtcsNational;
 use crate::records::{EtcsRecord, record_reported};
 use blocks::{Block, BlockRecord};
+use c_numbers::{EtcsKept, EtcsNational, kept_reported, train_reported};
 use lives::Unknown;
 use replaying::{HeadFound, Judged, KeptField, RecordField};
 

@@ -7,6 +7,7 @@ pub mod Goings
 pub mod HeldValues
 pub mod Histories
 pub mod Parts
+pub mod Permitting
 pub mod PlaceValues
 pub mod Providing
 pub mod Releasing

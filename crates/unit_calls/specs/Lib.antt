@@ -1,3 +1,4 @@
+pub mod Drivers
 pub mod Endings
 pub mod Formatting
 pub mod Goings

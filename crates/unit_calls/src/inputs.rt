@@ -114,8 +114,8 @@ pub fn train_data(train: &EtcsTrainData) -> Option<Input>
     Some(Input::Driver(Action::EnterTrainData(data)))
 }
 
-// An action of the driver by its number, 1 to 15.
-fn action_of(number: u32) -> Option<Action>
+/// An action of the driver by its number, 1 to 15.
+pub fn action_of(number: u32) -> Option<Action>
     ensures { result ≡ action_by number }
 {
     match number {

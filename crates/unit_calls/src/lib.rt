@@ -3,6 +3,8 @@
 #![tactic(auto)]
 
 mod call_values;
+mod driver_values;
+mod driving;
 mod events_in;
 mod explaining;
 mod formatting;
@@ -25,6 +27,8 @@ mod version;
 mod why;
 
 pub use call_values::{EtcsRequest, cold_of_number};
+pub use driver_values::EtcsUnitDriver;
+pub use driving::unit_driver_call;
 pub use events_in::{
     action_call, clock_call, identity_call, odometer_call, running_number_call, telegram_call,
     train_data_call,

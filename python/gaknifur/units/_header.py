@@ -10,8 +10,9 @@ SECTOR = 512
 OUTPUTS = 8
 REQUEST_BYTES = 8192
 BRAKE_CAUSES = 10
-PAYLOAD_BYTES = 104
 ENDLESS = 0xFFFFFFFF
+ACTIONS = 16
+PAYLOAD_BYTES = 104
 NO_PACKET = 256
 
 
@@ -217,6 +218,14 @@ class Acknowledgement(enum.IntEnum):
     OWED = 2
 
 
+class Datum(enum.IntEnum):
+    """Whether a datum may be relied on (SUBSET-026, 4.10)."""
+
+    UNKNOWN = 0
+    VALID = 1
+    INVALID = 2
+
+
 class Adaptation(enum.IntEnum):
     """What came of a telegram that may be of an installed track (etcs_telegram_adapt)."""
 
@@ -279,14 +288,6 @@ class Kind(enum.IntEnum):
     ODOMETER = 3
     CLOCK = 4
     DRIVER = 5
-
-
-class Datum(enum.IntEnum):
-    """Whether a datum may be relied on (SUBSET-026, 4.10)."""
-
-    UNKNOWN = 0
-    VALID = 1
-    INVALID = 2
 
 
 class Verdict(enum.IntEnum):
@@ -427,6 +428,28 @@ class etcs_unit_why_info(Structure):
                 ("has_override", c_uint8), ("override_ends", c_uint8), ("reserved", c_uint8 * 4)]
 
 
+class etcs_national(Structure):
+    _fields_ = [("shunting_m_per_h", c_uint32), ("staff_responsible_m_per_h", c_uint32), ("on_sight_m_per_h", c_uint32),
+                ("unfitted_m_per_h", c_uint32), ("release_m_per_h", c_uint32), ("roll_cm", c_uint32),
+                ("override_allowed_m_per_h", c_uint32), ("override_m_per_h", c_uint32),
+                ("override_distance_cm", c_uint32), ("override_time_ms", c_uint32),
+                ("staff_responsible_distance_cm", c_uint32), ("count", c_uint32), ("countries", c_uint16 * 32)]
+
+
+class etcs_kept(Structure):
+    _fields_ = [("distance_cm", c_int64), ("train", etcs_train_data), ("running_number", c_uint32),
+                ("country", c_uint32), ("group", c_uint32), ("identity", c_uint8 * 16), ("identity_len", c_uint8),
+                ("has_running_number", c_uint8), ("has_train", c_uint8), ("level_status", c_uint8), ("level", c_uint8),
+                ("position_status", c_uint8), ("trip_outstanding", c_uint8), ("reserved", c_uint8),
+                ("national", etcs_national)]
+
+
+class etcs_unit_driver_info(Structure):
+    _fields_ = [("kept", etcs_kept), ("speed_m_per_h", c_uint32), ("mode", c_uint8), ("accepts", c_uint8 * 16),
+                ("accepts_identity", c_uint8), ("accepts_running_number", c_uint8), ("accepts_train_data", c_uint8),
+                ("is_revalidated", c_uint8), ("reserved", c_uint8 * 7)]
+
+
 class etcs_adapted(Structure):
     _fields_ = [("outcome", c_uint32), ("len", c_uint32), ("start", c_uint32), ("bits", c_uint32)]
 
@@ -450,22 +473,6 @@ class etcs_slot(Structure):
 
 class etcs_slot_start(Structure):
     _fields_ = [("number", c_uint64), ("is_closed", c_uint32), ("reserved", c_uint32)]
-
-
-class etcs_national(Structure):
-    _fields_ = [("shunting_m_per_h", c_uint32), ("staff_responsible_m_per_h", c_uint32), ("on_sight_m_per_h", c_uint32),
-                ("unfitted_m_per_h", c_uint32), ("release_m_per_h", c_uint32), ("roll_cm", c_uint32),
-                ("override_allowed_m_per_h", c_uint32), ("override_m_per_h", c_uint32),
-                ("override_distance_cm", c_uint32), ("override_time_ms", c_uint32),
-                ("staff_responsible_distance_cm", c_uint32), ("count", c_uint32), ("countries", c_uint16 * 32)]
-
-
-class etcs_kept(Structure):
-    _fields_ = [("distance_cm", c_int64), ("train", etcs_train_data), ("running_number", c_uint32),
-                ("country", c_uint32), ("group", c_uint32), ("identity", c_uint8 * 16), ("identity_len", c_uint8),
-                ("has_running_number", c_uint8), ("has_train", c_uint8), ("level_status", c_uint8), ("level", c_uint8),
-                ("position_status", c_uint8), ("trip_outstanding", c_uint8), ("reserved", c_uint8),
-                ("national", etcs_national)]
 
 
 class etcs_block(Structure):
@@ -540,6 +547,7 @@ CALLS: dict[str, tuple[object, ...]] = {
     "etcs_unit_release_": (POINTER(etcs_unit), POINTER(etcs_unit_output), c_uint64, POINTER(c_uint32)),
     "etcs_unit_state_": (POINTER(etcs_unit), POINTER(etcs_unit_state_info)),
     "etcs_unit_why_": (POINTER(etcs_unit), POINTER(etcs_unit_why_info)),
+    "etcs_unit_driver_": (POINTER(etcs_unit), POINTER(etcs_unit_driver_info)),
     "etcs_unit_close_": (POINTER(etcs_unit),),
     "etcs_unit_format_request_": (c_uint32, c_uint32, POINTER(etcs_unit_request_info), c_char_p, c_uint64),
     "etcs_telegram_adapt_": (c_char_p, c_uint64, c_char_p, c_uint64, POINTER(etcs_adapted)),

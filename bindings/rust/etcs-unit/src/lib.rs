@@ -19,6 +19,7 @@ pub use image::{slot_start, Block, Image, Reason, Recorded, Replay, Replayed, Sl
 pub use journal::{Journal, Record};
 pub use numbers::*;
 pub use sys::etcs_train_data as TrainData;
+pub use sys::etcs_unit_driver_info as Driver;
 pub use sys::etcs_unit_state_info as State;
 pub use sys::etcs_unit_why_info as Why;
 
@@ -288,6 +289,14 @@ impl<M: Medium> Unit<M> {
         // SAFETY: as above.
         check(unsafe { sys::etcs_unit_why_(&mut *self.handle, &mut why) })?;
         Ok(why)
+    }
+
+    /// What the driver entered, and which actions of the driver the unit would accept now.
+    pub fn driver(&mut self) -> Result<Driver, Error<M::Error>> {
+        let mut driver = Driver::default();
+        // SAFETY: as above.
+        check(unsafe { sys::etcs_unit_driver_(&mut *self.handle, &mut driver) })?;
+        Ok(driver)
     }
 }
 

@@ -9,11 +9,11 @@ use Rattle.events.specs.Kept.{PositionFrom}
 use Rattle.events.specs.declared.kept.Kept.{Kept}
 use Rattle.mode_table.specs.Numbers.{level_number}
 use Rattle.mode_table.specs.declared.level.TrainLevel.{TrainLevel}
-use Rattle.image_calls.specs.NationalItems.{DescribesNational}
-use Rattle.image_calls.specs.declared.kept_items.EtcsKept.{EtcsKept}
-use Rattle.image_calls.specs.declared.kept_items.EtcsTrain.{EtcsTrain}
-use Rattle.image_calls.specs.declared.kept_items.Group.{Group}
-use Rattle.image_calls.specs.declared.national_items.EtcsNational.{EtcsNational}
+use Rattle.c_numbers.specs.NationalItems.{DescribesNational}
+use Rattle.c_numbers.specs.declared.kept_items.EtcsKept.{EtcsKept}
+use Rattle.c_numbers.specs.declared.kept_items.EtcsTrain.{EtcsTrain}
+use Rattle.c_numbers.specs.declared.kept_items.Group.{Group}
+use Rattle.c_numbers.specs.declared.national_items.EtcsNational.{EtcsNational}
 
 abbrev pub status_number : {A : Type 0} → Datum A → ℕ
 status_number a_datum.Unknown = 0

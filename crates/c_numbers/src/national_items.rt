@@ -1,6 +1,6 @@
 //! National values, as C gets them.
 ghost use Rattle.std.specs.Prelude.{◌≡◌, ◌≤◌, length};
-ghost use Rattle.image_calls.specs.NationalItems.{open_reported, AreCountries, DescribesNational};
+ghost use Rattle.c_numbers.specs.NationalItems.{open_reported, AreCountries, DescribesNational};
 
 use national::{CountryValues, OverrideDuration, StaffResponsibleDistance};
 use vars::{Country, Variable};

@@ -3,7 +3,7 @@
 use Rattle.std.specs.Prelude.{◌≡◌, ℕ, ◌-◌, ◌^◌, List, ◌++◌, length, replicate, Option, Some, None}
 use Rattle.national.specs.Values.{ValuesFor}
 use Rattle.national.specs.declared.values.Values.{Values}
-use Rattle.image_calls.specs.declared.national_items.EtcsNational.{EtcsNational}
+use Rattle.c_numbers.specs.declared.national_items.EtcsNational.{EtcsNational}
 
 -- what has no end is reported by the greatest number
 abbrev pub open_reported : Option ℕ → ℕ

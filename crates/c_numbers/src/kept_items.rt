@@ -1,7 +1,7 @@
 //! What a block keeps, as C gets it.
 ghost use Rattle.std.specs.Prelude.{◌≡◌};
 ghost use Rattle.c_numbers.specs.Numbers.{or_zero, flag_of};
-ghost use Rattle.image_calls.specs.KeptItems.{status_number, level_reported, train_reported, group_reported, identity_reported, identity_bytes, DescribesKept};
+ghost use Rattle.c_numbers.specs.KeptItems.{status_number, level_reported, train_reported, group_reported, identity_reported, identity_bytes, DescribesKept};
 
 use crate::national_items::{EtcsNational, national_reported};
 use driver::{Datum, DriverIdentity, RunningNumber, TrainData};
@@ -82,7 +82,7 @@ fn level_reported(level: Datum<TrainLevel>) -> u8
 }
 
 /// Train data, zeros where none are known.
-pub(crate) fn train_reported(train: Option<TrainData>) -> EtcsTrain
+pub fn train_reported(train: Option<TrainData>) -> EtcsTrain
     ensures { result ≡ train_reported train }
 {
     match train {

@@ -2,7 +2,7 @@ use Rattle.std.proofs.Common.{ℕ, List, ◌++◌, length, replicate, refl, ◌�
 use Rattle.std.proofs.lemmas.Grind.{common_steps}
 use Rattle.std.proofs.lemmas.List.{length-replicate, drop-replicate}
 use Rattle.c_numbers.proofs.Places.{one_placed, all_placed}
-use Rattle.image_calls.proofs.national_items.countries_reported.Goals as goal
+use Rattle.c_numbers.proofs.national_items.countries_reported.Goals as goal
 
 pub loop-i-preserved : goal.loop-i-preserved
 loop-i-preserved c =

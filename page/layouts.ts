@@ -137,7 +137,7 @@ export const BYTES = {
     replay: 720,
     why: 160,
     train: 20,
-    unit: 16,
+    unit: 32,
     room: 8192,
 };
 const CAUSES = 10;

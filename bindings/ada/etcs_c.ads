@@ -7,7 +7,7 @@ package Etcs_C is
    pragma Preelaborate;
 
    Telegram_Bytes : constant := 104;
-   Unit_Abi : constant := 5;
+   Unit_Abi : constant := 6;
    Version_Bytes : constant := 32;
    Build_Info_Bytes : constant := 160;
    Unit_Sector : constant := 512;
@@ -66,8 +66,6 @@ package Etcs_C is
       Failed,
       Requests_Owed,
       Worn_Out,
-      Sector_Wanted,
-      None_Wanted,
       Image_Not_Formatted,
       Image_Damaged,
       No_Such_Slot,
@@ -77,7 +75,6 @@ package Etcs_C is
       Not_Replayed,
       Bad_Slots,
       Not_Released,
-      Wrong_Count,
       No_Such_Request,
       Not_Open,
       Is_Open,
@@ -100,8 +97,6 @@ package Etcs_C is
       Failed => 21,
       Requests_Owed => 22,
       Worn_Out => 23,
-      Sector_Wanted => 24,
-      None_Wanted => 25,
       Image_Not_Formatted => 31,
       Image_Damaged => 32,
       No_Such_Slot => 35,
@@ -111,7 +106,6 @@ package Etcs_C is
       Not_Replayed => 39,
       Bad_Slots => 41,
       Not_Released => 247,
-      Wrong_Count => 248,
       No_Such_Request => 249,
       Not_Open => 250,
       Is_Open => 251,
@@ -226,11 +220,13 @@ package Etcs_C is
 
    type Request_Kind is (
       Write,
-      Sync)
+      Sync,
+      Read)
    with Size => 32;
    for Request_Kind use (
       Write => 1,
-      Sync => 2);
+      Sync => 2,
+      Read => 3);
 
    type Brake_Cause is (
       Not_Revalidated,
@@ -561,14 +557,10 @@ package Etcs_C is
    type Unit_Struct is record
       At_It : System.Address;
       Is_Open : Unsigned_64;
+      Power_Up : System.Address;
+      Is_Under_Way : Unsigned_64;
    end record with Convention => C;
-   pragma Compile_Time_Error (Unit_Struct'Size /= 128, "the library has another layout");
-
-   type Opening_Struct is record
-      At_It : System.Address;
-      Is_Open : Unsigned_64;
-   end record with Convention => C;
-   pragma Compile_Time_Error (Opening_Struct'Size /= 128, "the library has another layout");
+   pragma Compile_Time_Error (Unit_Struct'Size /= 256, "the library has another layout");
 
    type Unit_Output_Struct is record
       Event : Unsigned_64;
@@ -849,6 +841,10 @@ package Etcs_C is
    function Build_Info (Out_It : System.Address; Room : Unsigned_64; Len : System.Address) return Unsigned_32
    with Import, Convention => C, External_Name => "etcs_build_info_";
 
+   function Unit_Begin (Unit : System.Address; Sectors : Unsigned_64; Cold : Unsigned_32; Abi : Unsigned_32) return
+      Unsigned_32
+   with Import, Convention => C, External_Name => "etcs_unit_begin_";
+
    function Unit_Open (Unit : System.Address; Image : System.Address; Len : Unsigned_64; Cold : Unsigned_32; Abi :
       Unsigned_32) return Unsigned_32
    with Import, Convention => C, External_Name => "etcs_unit_open_";
@@ -875,26 +871,6 @@ package Etcs_C is
    function Unit_Train_Data (Unit : System.Address; Data : System.Address) return Unsigned_32
    with Import, Convention => C, External_Name => "etcs_unit_train_data_";
 
-   function Opening_Begin (Opening : System.Address; Sectors : Unsigned_64; Cold : Unsigned_32; Abi : Unsigned_32)
-      return Unsigned_32
-   with Import, Convention => C, External_Name => "etcs_opening_begin_";
-
-   function Opening_Go_On (Opening : System.Address; Unit : System.Address) return Unsigned_32
-   with Import, Convention => C, External_Name => "etcs_opening_go_on_";
-
-   function Opening_Wanted (Opening : System.Address; Sector : System.Address) return Unsigned_32
-   with Import, Convention => C, External_Name => "etcs_opening_wanted_";
-
-   function Opening_Provide (Opening : System.Address; Sector : Unsigned_64; Bytes : System.Address; Size : Unsigned_64)
-      return Unsigned_32
-   with Import, Convention => C, External_Name => "etcs_opening_provide_";
-
-   function Opening_Close (Opening : System.Address) return Unsigned_32
-   with Import, Convention => C, External_Name => "etcs_opening_close_";
-
-   function Unit_Wanted (Unit : System.Address; Sector : System.Address) return Unsigned_32
-   with Import, Convention => C, External_Name => "etcs_unit_wanted_";
-
    function Unit_Provide (Unit : System.Address; Sector : Unsigned_64; Bytes : System.Address; Size : Unsigned_64)
       return Unsigned_32
    with Import, Convention => C, External_Name => "etcs_unit_provide_";
@@ -902,11 +878,11 @@ package Etcs_C is
    function Unit_Prepare (Unit : System.Address) return Unsigned_32
    with Import, Convention => C, External_Name => "etcs_unit_prepare_";
 
-   function Unit_Request (Unit : System.Address; Index : Unsigned_32; Request : System.Address; Bytes : System.Address;
-      Room : Unsigned_64) return Unsigned_32
+   function Unit_Request (Unit : System.Address; Request : System.Address; Bytes : System.Address; Room : Unsigned_64)
+      return Unsigned_32
    with Import, Convention => C, External_Name => "etcs_unit_request_";
 
-   function Unit_Done (Unit : System.Address; Count : Unsigned_32) return Unsigned_32
+   function Unit_Done (Unit : System.Address) return Unsigned_32
    with Import, Convention => C, External_Name => "etcs_unit_done_";
 
    function Unit_Fail (Unit : System.Address) return Unsigned_32

@@ -16,6 +16,7 @@ pub mod PowerUps
 pub mod Requests
 pub mod Sectors
 pub mod Statuses
+pub mod Units
 pub mod Versions
 pub mod Whys
 pub mod ColdNumbers

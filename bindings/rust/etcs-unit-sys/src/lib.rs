@@ -6,7 +6,7 @@ use std::mem::{size_of, zeroed};
 use std::os::raw::{c_char, c_void};
 
 pub const ETCS_TELEGRAM_BYTES: u32 = 104;
-pub const ETCS_UNIT_ABI: u32 = 5;
+pub const ETCS_UNIT_ABI: u32 = 6;
 pub const ETCS_VERSION_BYTES: u32 = 32;
 pub const ETCS_BUILD_INFO_BYTES: u32 = 160;
 pub const ETCS_UNIT_SECTOR: u32 = 512;
@@ -45,8 +45,6 @@ pub const ETCS_UNIT_INPUT_FAILED: u32 = 13;
 pub const ETCS_UNIT_FAILED: u32 = 21;
 pub const ETCS_UNIT_REQUESTS_OWED: u32 = 22;
 pub const ETCS_UNIT_WORN_OUT: u32 = 23;
-pub const ETCS_UNIT_SECTOR_WANTED: u32 = 24;
-pub const ETCS_UNIT_NONE_WANTED: u32 = 25;
 pub const ETCS_UNIT_IMAGE_NOT_FORMATTED: u32 = 31;
 pub const ETCS_UNIT_IMAGE_DAMAGED: u32 = 32;
 pub const ETCS_UNIT_NO_SUCH_SLOT: u32 = 35;
@@ -56,7 +54,6 @@ pub const ETCS_UNIT_END: u32 = 38;
 pub const ETCS_UNIT_NOT_REPLAYED: u32 = 39;
 pub const ETCS_UNIT_BAD_SLOTS: u32 = 41;
 pub const ETCS_UNIT_NOT_RELEASED: u32 = 247;
-pub const ETCS_UNIT_WRONG_COUNT: u32 = 248;
 pub const ETCS_UNIT_NO_SUCH_REQUEST: u32 = 249;
 pub const ETCS_UNIT_NOT_OPEN: u32 = 250;
 pub const ETCS_UNIT_IS_OPEN: u32 = 251;
@@ -120,6 +117,7 @@ pub const ETCS_SHOWS_OVERSPEED: u32 = 64;
 
 pub const ETCS_REQUEST_WRITE: u32 = 1;
 pub const ETCS_REQUEST_SYNC: u32 = 2;
+pub const ETCS_REQUEST_READ: u32 = 3;
 
 pub const ETCS_CAUSE_NOT_REVALIDATED: u32 = 0;
 pub const ETCS_CAUSE_IN_TRIP: u32 = 1;
@@ -162,6 +160,8 @@ pub const ETCS_ACKNOWLEDGEMENT_OWED: u32 = 2;
 pub struct etcs_unit {
     pub at: *mut c_void,
     pub is_open: u64,
+    pub power_up: *mut c_void,
+    pub is_under_way: u64,
 }
 
 impl Default for etcs_unit {
@@ -171,23 +171,7 @@ impl Default for etcs_unit {
     }
 }
 
-const _: () = assert!(size_of::<etcs_unit>() == 16);
-
-#[repr(C)]
-#[derive(Debug)]
-pub struct etcs_opening {
-    pub at: *mut c_void,
-    pub is_open: u64,
-}
-
-impl Default for etcs_opening {
-    fn default() -> Self {
-        // SAFETY: of numbers, arrays of numbers and pointers all zeros are a value.
-        unsafe { zeroed() }
-    }
-}
-
-const _: () = assert!(size_of::<etcs_opening>() == 16);
+const _: () = assert!(size_of::<etcs_unit>() == 32);
 
 #[repr(C)]
 #[derive(Clone, Copy, Debug)]
@@ -773,6 +757,7 @@ extern "C" {
     pub fn etcs_packet_count(bytes: *const u8, len: u64) -> u32;
     pub fn etcs_version_(out: *mut u8, room: u64, len: *mut u32) -> u32;
     pub fn etcs_build_info_(out: *mut u8, room: u64, len: *mut u32) -> u32;
+    pub fn etcs_unit_begin_(unit: *mut etcs_unit, sectors: u64, cold: u32, abi: u32) -> u32;
     pub fn etcs_unit_open_(unit: *mut etcs_unit, image: *const u8, len: u64, cold: u32, abi: u32) -> u32;
     pub fn etcs_unit_telegram_(unit: *mut etcs_unit, bytes: *const u8, len: u64) -> u32;
     pub fn etcs_unit_odometer_(unit: *mut etcs_unit, movement_cm: i64, speed_m_per_h: u32) -> u32;
@@ -781,16 +766,10 @@ extern "C" {
     pub fn etcs_unit_identity_(unit: *mut etcs_unit, bytes: *const u8, len: u64) -> u32;
     pub fn etcs_unit_running_number_(unit: *mut etcs_unit, number: u32) -> u32;
     pub fn etcs_unit_train_data_(unit: *mut etcs_unit, data: *const etcs_train_data) -> u32;
-    pub fn etcs_opening_begin_(opening: *mut etcs_opening, sectors: u64, cold: u32, abi: u32) -> u32;
-    pub fn etcs_opening_go_on_(opening: *mut etcs_opening, unit: *mut etcs_unit) -> u32;
-    pub fn etcs_opening_wanted_(opening: *mut etcs_opening, sector: *mut u64) -> u32;
-    pub fn etcs_opening_provide_(opening: *mut etcs_opening, sector: u64, bytes: *const u8, size: u64) -> u32;
-    pub fn etcs_opening_close_(opening: *mut etcs_opening) -> u32;
-    pub fn etcs_unit_wanted_(unit: *mut etcs_unit, sector: *mut u64) -> u32;
     pub fn etcs_unit_provide_(unit: *mut etcs_unit, sector: u64, bytes: *const u8, size: u64) -> u32;
     pub fn etcs_unit_prepare_(unit: *mut etcs_unit) -> u32;
-    pub fn etcs_unit_request_(unit: *mut etcs_unit, index: u32, request: *mut etcs_unit_request_info, bytes: *mut u8, room: u64) -> u32;
-    pub fn etcs_unit_done_(unit: *mut etcs_unit, count: u32) -> u32;
+    pub fn etcs_unit_request_(unit: *mut etcs_unit, request: *mut etcs_unit_request_info, bytes: *mut u8, room: u64) -> u32;
+    pub fn etcs_unit_done_(unit: *mut etcs_unit) -> u32;
     pub fn etcs_unit_fail_(unit: *mut etcs_unit) -> u32;
     pub fn etcs_unit_release_(unit: *mut etcs_unit, outputs: *mut etcs_unit_output, room: u64, count: *mut u32) -> u32;
     pub fn etcs_unit_state_(unit: *mut etcs_unit, state: *mut etcs_unit_state_info) -> u32;

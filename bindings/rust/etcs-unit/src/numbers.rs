@@ -86,8 +86,6 @@ pub enum Status {
     Failed = sys::ETCS_UNIT_FAILED,
     RequestsOwed = sys::ETCS_UNIT_REQUESTS_OWED,
     WornOut = sys::ETCS_UNIT_WORN_OUT,
-    SectorWanted = sys::ETCS_UNIT_SECTOR_WANTED,
-    NoneWanted = sys::ETCS_UNIT_NONE_WANTED,
     ImageNotFormatted = sys::ETCS_UNIT_IMAGE_NOT_FORMATTED,
     ImageDamaged = sys::ETCS_UNIT_IMAGE_DAMAGED,
     NoSuchSlot = sys::ETCS_UNIT_NO_SUCH_SLOT,
@@ -97,7 +95,6 @@ pub enum Status {
     NotReplayed = sys::ETCS_UNIT_NOT_REPLAYED,
     BadSlots = sys::ETCS_UNIT_BAD_SLOTS,
     NotReleased = sys::ETCS_UNIT_NOT_RELEASED,
-    WrongCount = sys::ETCS_UNIT_WRONG_COUNT,
     NoSuchRequest = sys::ETCS_UNIT_NO_SUCH_REQUEST,
     NotOpen = sys::ETCS_UNIT_NOT_OPEN,
     IsOpen = sys::ETCS_UNIT_IS_OPEN,
@@ -124,8 +121,6 @@ impl Status {
             sys::ETCS_UNIT_FAILED => Some(Status::Failed),
             sys::ETCS_UNIT_REQUESTS_OWED => Some(Status::RequestsOwed),
             sys::ETCS_UNIT_WORN_OUT => Some(Status::WornOut),
-            sys::ETCS_UNIT_SECTOR_WANTED => Some(Status::SectorWanted),
-            sys::ETCS_UNIT_NONE_WANTED => Some(Status::NoneWanted),
             sys::ETCS_UNIT_IMAGE_NOT_FORMATTED => Some(Status::ImageNotFormatted),
             sys::ETCS_UNIT_IMAGE_DAMAGED => Some(Status::ImageDamaged),
             sys::ETCS_UNIT_NO_SUCH_SLOT => Some(Status::NoSuchSlot),
@@ -135,7 +130,6 @@ impl Status {
             sys::ETCS_UNIT_NOT_REPLAYED => Some(Status::NotReplayed),
             sys::ETCS_UNIT_BAD_SLOTS => Some(Status::BadSlots),
             sys::ETCS_UNIT_NOT_RELEASED => Some(Status::NotReleased),
-            sys::ETCS_UNIT_WRONG_COUNT => Some(Status::WrongCount),
             sys::ETCS_UNIT_NO_SUCH_REQUEST => Some(Status::NoSuchRequest),
             sys::ETCS_UNIT_NOT_OPEN => Some(Status::NotOpen),
             sys::ETCS_UNIT_IS_OPEN => Some(Status::IsOpen),
@@ -377,6 +371,7 @@ impl Brake {
 pub enum RequestKind {
     Write = sys::ETCS_REQUEST_WRITE,
     Sync = sys::ETCS_REQUEST_SYNC,
+    Read = sys::ETCS_REQUEST_READ,
 }
 
 impl RequestKind {
@@ -385,6 +380,7 @@ impl RequestKind {
         match number {
             sys::ETCS_REQUEST_WRITE => Some(RequestKind::Write),
             sys::ETCS_REQUEST_SYNC => Some(RequestKind::Sync),
+            sys::ETCS_REQUEST_READ => Some(RequestKind::Read),
             _ => None,
         }
     }

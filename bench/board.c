@@ -84,12 +84,13 @@ static void release(void) {
     static uint8_t bytes[ETCS_UNIT_REQUEST_BYTES];
     etcs_unit_output outputs[ETCS_UNIT_OUTPUTS];
     etcs_unit_request_info request;
-    uint32_t count = 0;
-    while (etcs_unit_request(&unit, count, &request, bytes, sizeof bytes) == ETCS_UNIT_OK) {
+    uint32_t count, status;
+    while ((status = etcs_unit_request(&unit, &request, bytes, sizeof bytes)) == ETCS_UNIT_OK) {
         carries_out(&request, bytes);
-        count++;
+        if (etcs_unit_done(&unit) != ETCS_UNIT_OK)
+            return;
     }
-    if (etcs_unit_done(&unit, count) == ETCS_UNIT_OK && etcs_unit_release(&unit, outputs, ETCS_UNIT_OUTPUTS, &count) == ETCS_UNIT_OK)
+    if (status == ETCS_UNIT_NO_SUCH_REQUEST && etcs_unit_release(&unit, outputs, ETCS_UNIT_OUTPUTS, &count) == ETCS_UNIT_OK)
         pending = 0;
 }
 

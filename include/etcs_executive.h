@@ -73,7 +73,7 @@ typedef struct {
 
     /** Reads a sector, ETCS_UNIT_SECTOR bytes, from the medium itself. */
     int (*read_sector)(void *medium, uint64_t sector, uint8_t *bytes);
-    /** Carries out a request, all of it, before it returns. */
+    /** Carries out a write or a sync, all of it, before it returns. */
     int (*carry_out)(void *medium, const etcs_unit_request_info *request, const uint8_t *bytes);
     /** The moment now, in microseconds. */
     uint64_t (*now_us)(void *of);
@@ -159,63 +159,41 @@ static inline void etcs_executive_fail_(etcs_executive *executive, uint32_t faul
     }
 }
 
-/* Reads the sector that a power-up wants, or else the unit, and hands it in. */
-static inline uint32_t etcs_executive_hand_in_(etcs_executive *executive, etcs_opening *opening) {
+/* Reads a sector, and hands it in. */
+static inline uint32_t etcs_executive_read_(etcs_executive *executive, uint64_t sector) {
     const etcs_equipment *const equipment = executive->equipment;
-    uint64_t sector = 0;
-    uint32_t status = (opening != NULL) ? etcs_opening_wanted(opening, &sector) : etcs_unit_wanted(&executive->unit, &sector);
-    if ((status == (uint32_t)ETCS_UNIT_OK) && (equipment->read_sector(equipment->medium, sector, executive->bytes) == 0)) {
-        status = (uint32_t)ETCS_UNIT_FAILED;
+    if (equipment->read_sector(equipment->medium, sector, executive->bytes) == 0) {
+        (void)etcs_unit_fail(&executive->unit);
+        return (uint32_t)ETCS_UNIT_FAILED;
     }
-    if (status == (uint32_t)ETCS_UNIT_OK) {
-        status = (opening != NULL) ? etcs_opening_provide(opening, sector, executive->bytes, ETCS_UNIT_SECTOR)
-                                   : etcs_unit_provide(&executive->unit, sector, executive->bytes, ETCS_UNIT_SECTOR);
-    }
-    return status;
+    return etcs_unit_provide(&executive->unit, sector, executive->bytes, ETCS_UNIT_SECTOR);
 }
 
-static inline uint32_t etcs_executive_open_(etcs_executive *executive, uint32_t cold) {
-    etcs_opening opening;
-    opening.at = NULL;
-    opening.is_open = 0;
-    uint32_t status = etcs_opening_begin(&opening, executive->equipment->sectors, cold);
-    while (status == (uint32_t)ETCS_UNIT_OK) {
-        status = etcs_opening_go_on(&opening, &executive->unit);
-        if (status != (uint32_t)ETCS_UNIT_SECTOR_WANTED) {
+/* Carries out a write or a sync. */
+static inline uint32_t etcs_executive_write_(etcs_executive *executive, const etcs_unit_request_info *request) {
+    const etcs_equipment *const equipment = executive->equipment;
+    uint64_t digest = etcs_digest_number_(executive->requests_digest, request->kind);
+    digest = etcs_digest_number_(etcs_digest_number_(digest, request->sector), request->sectors);
+    executive->requests_digest = etcs_digest_bytes_(digest, executive->bytes, request->sectors * ETCS_UNIT_SECTOR);
+    if (equipment->carry_out(equipment->medium, request, executive->bytes) == 0) {
+        (void)etcs_unit_fail(&executive->unit);
+        return (uint32_t)ETCS_UNIT_FAILED;
+    }
+    return etcs_unit_done(&executive->unit);
+}
+
+/* Carries out what is to be done, one request after the other, at power-up and in each flush. */
+static inline uint32_t etcs_executive_carry_out_(etcs_executive *executive) {
+    etcs_unit_request_info request;
+    uint32_t status;
+    while ((status = etcs_unit_request(&executive->unit, &request, executive->bytes, sizeof executive->bytes)) == (uint32_t)ETCS_UNIT_OK) {
+        status = (request.kind == (uint64_t)ETCS_REQUEST_READ) ? etcs_executive_read_(executive, request.sector)
+                                                               : etcs_executive_write_(executive, &request);
+        if (status != (uint32_t)ETCS_UNIT_OK) {
             break;
         }
-        status = etcs_executive_hand_in_(executive, &opening);
     }
-    (void)etcs_opening_close(&opening);
-    return status;
-}
-
-static inline uint32_t etcs_executive_prepare_(etcs_executive *executive) {
-    uint32_t status = etcs_unit_prepare(&executive->unit);
-    while (status == (uint32_t)ETCS_UNIT_SECTOR_WANTED) {
-        status = etcs_executive_hand_in_(executive, NULL);
-        if (status == (uint32_t)ETCS_UNIT_OK) {
-            status = etcs_unit_prepare(&executive->unit);
-        }
-    }
-    return status;
-}
-
-static inline uint32_t etcs_executive_carry_out_(etcs_executive *executive) {
-    const etcs_equipment *const equipment = executive->equipment;
-    etcs_unit_request_info request;
-    uint32_t index = 0, status;
-    while ((status = etcs_unit_request(&executive->unit, index, &request, executive->bytes, sizeof executive->bytes)) == (uint32_t)ETCS_UNIT_OK) {
-        uint64_t digest = etcs_digest_number_(executive->requests_digest, request.kind);
-        digest = etcs_digest_number_(etcs_digest_number_(digest, request.sector), request.sectors);
-        executive->requests_digest = etcs_digest_bytes_(digest, executive->bytes, request.sectors * ETCS_UNIT_SECTOR);
-        if (equipment->carry_out(equipment->medium, &request, executive->bytes) == 0) {
-            (void)etcs_unit_fail(&executive->unit);
-            return (uint32_t)ETCS_UNIT_FAILED;
-        }
-        index++;
-    }
-    return (status == (uint32_t)ETCS_UNIT_NO_SUCH_REQUEST) ? etcs_unit_done(&executive->unit, index) : status;
+    return (status == (uint32_t)ETCS_UNIT_NO_SUCH_REQUEST) ? (uint32_t)ETCS_UNIT_OK : status;
 }
 
 /* Carries out the list and releases: the newest output, with the most restrictive brake of the release. */
@@ -248,7 +226,7 @@ static inline uint32_t etcs_executive_flush_(etcs_executive *executive) {
         flushes++;
         status = ((taken == (uint32_t)ETCS_UNIT_PENDING_FULL) && (flushes < (uint32_t)ETCS_EXECUTIVE_FLUSHES)) ? (uint32_t)ETCS_UNIT_OK : taken;
         if (status == (uint32_t)ETCS_UNIT_OK) {
-            status = etcs_executive_prepare_(executive);
+            status = etcs_unit_prepare(&executive->unit);
         }
         if (status == (uint32_t)ETCS_UNIT_OK) {
             status = etcs_executive_release_(executive);
@@ -314,7 +292,7 @@ enum etcs_channel_part {
     ETCS_CHANNEL_COMMAND = 2,  /**< limit, mode, level, brake and indications that this channel would obey */
     ETCS_CHANNEL_EVENT = 3,    /**< the number of the newest event that was released */
     ETCS_CHANNEL_OUTPUTS = 4,  /**< the digest of all outputs of the cycle */
-    ETCS_CHANNEL_REQUESTS = 5, /**< the digest of all requests of the cycle, with their bytes */
+    ETCS_CHANNEL_REQUESTS = 5, /**< the digest of all writes and syncs of the cycle, with their bytes */
     ETCS_CHANNEL_STATE = 6,    /**< the digest of etcs_unit_state */
     ETCS_CHANNEL_SAME = 7      /**< nothing differs */
 };
@@ -394,7 +372,7 @@ static inline uint32_t etcs_self_test_format_(etcs_executive *executive) {
 
 /* A life of the steps from one to another; the digest of the outputs of each goes to `digest`. */
 static inline uint32_t etcs_self_test_live_(etcs_executive *executive, uint32_t cold, uint32_t from, uint32_t to, uint64_t *digest) {
-    uint32_t status = etcs_executive_open_(executive, cold);
+    uint32_t status = etcs_unit_begin(&executive->unit, executive->equipment->sectors, cold);
     if (status == (uint32_t)ETCS_UNIT_OK) {
         status = etcs_executive_release_(executive);
     }
@@ -462,7 +440,7 @@ ETCS_MUST_USE
 static inline uint32_t etcs_executive_begin(etcs_executive *executive, const etcs_equipment *equipment, uint32_t cold) {
     uint64_t digest = 0;
     uint32_t status = (uint32_t)ETCS_UNIT_OK;
-    if (executive->unit.is_open != 0u) {
+    if ((executive->unit.is_open != 0u) || (executive->unit.is_under_way != 0u)) {
         return (uint32_t)ETCS_UNIT_IS_OPEN;
     }
     etcs_executive_clear_(executive, equipment);
@@ -473,7 +451,7 @@ static inline uint32_t etcs_executive_begin(etcs_executive *executive, const etc
     }
     etcs_executive_clear_(executive, equipment);
     if (status == (uint32_t)ETCS_UNIT_OK) {
-        status = etcs_executive_open_(executive, cold);
+        status = etcs_unit_begin(&executive->unit, equipment->sectors, cold);
     }
     if (status == (uint32_t)ETCS_UNIT_OK) {
         status = etcs_executive_release_(executive);

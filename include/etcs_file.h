@@ -15,8 +15,8 @@
  *     ...
  *     etcs_file_close(&file, &unit);
  *
- * etcs_file_open_by_sectors, in place of etcs_file_open, keeps no copy of the file: it reads a sector as the unit wants it, and
- * so does each later flush. The unit then takes as much memory whatever the file's size; all else is the same.
+ * etcs_file_open_by_sectors, in place of etcs_file_open, keeps no copy of the file: it reads a sector as the unit asks for it,
+ * and so does each later flush. The unit then takes as much memory whatever the file's size; all else is the same.
  *
  * Each call answers what failed (enum etcs_file_answer). Where the system failed, `error` of the file has its errno;
  * where the unit answered something else than OK, `status` has it (enum etcs_unit_status). ANY ANSWER BUT ETCS_FILE_OK
@@ -284,36 +284,32 @@ static inline uint32_t etcs_file_open_(etcs_file *file, const char *path, etcs_u
     return answer;
 }
 
-/* Reads a sector, and hands it to a power-up, or else to the unit. */
-static inline uint32_t etcs_file_hand_in_(etcs_file *file, etcs_opening *opening, etcs_unit *unit) {
-    uint8_t bytes[ETCS_UNIT_SECTOR];
-    uint64_t sector = 0;
-    uint32_t answer = etcs_file_status_(file, opening ? etcs_opening_wanted(opening, &sector) : etcs_unit_wanted(unit, &sector));
-    if (answer == ETCS_FILE_OK)
-        answer = etcs_file_read_(file, bytes, sizeof bytes, sector * ETCS_UNIT_SECTOR);
-    if (answer != ETCS_FILE_OK)
+/* Carries out one request of the unit. Where the file fails it reports that to the unit. */
+static inline uint32_t etcs_file_serve_(etcs_file *file, etcs_unit *unit, const etcs_unit_request_info *request, uint8_t *bytes) {
+    const int is_read = request->kind == ETCS_REQUEST_READ;
+    const uint32_t answer = is_read ? etcs_file_read_(file, bytes, ETCS_UNIT_SECTOR, request->sector * ETCS_UNIT_SECTOR)
+                                    : etcs_file_do_(file, request, bytes);
+    if (answer != ETCS_FILE_OK) {
+        etcs_unit_fail(unit);
         return answer;
-    return etcs_file_status_(file, opening ? etcs_opening_provide(opening, sector, bytes, sizeof bytes)
-                                         : etcs_unit_provide(unit, sector, bytes, sizeof bytes));
+    }
+    return etcs_file_status_(file, is_read ? etcs_unit_provide(unit, request->sector, bytes, ETCS_UNIT_SECTOR) : etcs_unit_done(unit));
 }
 
-/* Powers up in steps, and reads the sector that each wants. */
+/* Powers up, and reads each sector that it needs. */
 static inline uint32_t etcs_file_power_up_(etcs_file *file, etcs_unit *unit, uint32_t cold) {
-    etcs_opening opening;
+    uint8_t bytes[ETCS_UNIT_REQUEST_BYTES];
+    etcs_unit_request_info request;
     const off_t end = lseek(file->descriptor, 0, SEEK_END);
-    memset(&opening, 0, sizeof opening);
     if (end < 0)
         return etcs_file_failed_(file, ETCS_FILE_CANT_READ);
-    uint32_t answer = etcs_file_status_(file, etcs_opening_begin(&opening, (uint64_t)end / ETCS_UNIT_SECTOR, cold));
-    if (answer == ETCS_FILE_OK)
-        answer = etcs_file_status_(file, etcs_opening_go_on(&opening, unit));
-    while (file->status == ETCS_UNIT_SECTOR_WANTED) {
-        answer = etcs_file_hand_in_(file, &opening, NULL);
-        if (answer != ETCS_FILE_OK)
+    uint32_t answer = etcs_file_status_(file, etcs_unit_begin(unit, (uint64_t)end / ETCS_UNIT_SECTOR, cold));
+    while (answer == ETCS_FILE_OK) {
+        answer = etcs_file_status_(file, etcs_unit_request(unit, &request, bytes, sizeof bytes));
+        if (answer != ETCS_FILE_OK || request.kind != ETCS_REQUEST_READ)
             break;
-        answer = etcs_file_status_(file, etcs_opening_go_on(&opening, unit));
+        answer = etcs_file_serve_(file, unit, &request, bytes);
     }
-    etcs_opening_close(&opening);
     return answer;
 }
 
@@ -395,40 +391,26 @@ static inline uint32_t etcs_file_open_by_sectors(etcs_file *file, const char *pa
     return answer;
 }
 
-/** Turns the accepted inputs into requests. etcs_file_flush calls it. Where the unit holds no copy of the file it reads the
- * sector that the unit needs; where that fails it reports that to the unit (etcs_unit_fail). */
+/** Turns the accepted inputs into requests. etcs_file_flush calls it. */
 ETCS_MUST_USE
 static inline uint32_t etcs_file_prepare(etcs_file *file, etcs_unit *unit) {
-    uint32_t answer = etcs_file_status_(file, etcs_unit_prepare(unit));
-    while (file->status == ETCS_UNIT_SECTOR_WANTED) {
-        answer = etcs_file_hand_in_(file, NULL, unit);
-        if (answer != ETCS_FILE_OK) {
-            etcs_unit_fail(unit);
-            break;
-        }
-        answer = etcs_file_status_(file, etcs_unit_prepare(unit));
-    }
-    return answer;
+    return etcs_file_status_(file, etcs_unit_prepare(unit));
 }
 
-/** Carries out the unit's requests that aren't done, one after the other, and reports each as done. etcs_file_flush calls
- * it. Where the file fails it reports that to the unit (etcs_unit_fail), so that nothing is released any more. */
+/** Carries out the unit's requests that aren't done, one after the other, reads among them. etcs_file_flush calls it. Where
+ * the file fails it reports that to the unit (etcs_unit_fail), so that nothing is released any more. */
 ETCS_MUST_USE
 static inline uint32_t etcs_file_carry_out(etcs_file *file, etcs_unit *unit) {
     uint8_t bytes[ETCS_UNIT_REQUEST_BYTES];
     etcs_unit_request_info request;
-    etcs_unit_state_info state;
-    uint32_t answer = etcs_file_status_(file, etcs_unit_state(unit, &state));
-    if (answer != ETCS_FILE_OK)
-        return answer;
-    for (uint32_t index = (uint32_t)state.done; answer == ETCS_FILE_OK && index < state.requests; index++) {
-        answer = etcs_file_status_(file, etcs_unit_request(unit, index, &request, bytes, sizeof bytes));
+    uint32_t answer = ETCS_FILE_OK;
+    while (answer == ETCS_FILE_OK) {
+        const uint32_t status = etcs_unit_request(unit, &request, bytes, sizeof bytes);
+        if (status == ETCS_UNIT_NO_SUCH_REQUEST)
+            return etcs_file_status_(file, ETCS_UNIT_OK);
+        answer = etcs_file_status_(file, status);
         if (answer == ETCS_FILE_OK)
-            answer = etcs_file_do_(file, &request, bytes);
-        if (answer == ETCS_FILE_OK)
-            answer = etcs_file_status_(file, etcs_unit_done(unit, index + 1));
-        else
-            etcs_unit_fail(unit);
+            answer = etcs_file_serve_(file, unit, &request, bytes);
     }
     return answer;
 }

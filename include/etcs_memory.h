@@ -20,7 +20,7 @@
  *
  * A request that finds no piece is refused: opening answers OPEN_NO_MEMORY, an input, etcs_image_replay and
  * etcs_image_why NO_MEMORY, and nothing has changed. The buffer is one for all units of the program. So calls that take
- * or give memory (etcs_unit_open and _close, etcs_opening_begin, _go_on and _close, the inputs, etcs_image_replay and _why,
+ * or give memory (etcs_unit_begin, _open, _provide, _fail and _close, the inputs, etcs_image_replay and _why,
  * and those below) are for one task at a time, also where they are for different units.
  *
  * The caller owes that nobody else reads or writes the buffer until another one is used.
@@ -46,7 +46,7 @@ extern "C" {
 
 /** What one unit, alone on a buffer, needs at most, in bytes, of:
  *
- * - slots: of its medium, which has 1 + 6 * slots sectors; 0 where it is opened without a copy (etcs_opening_begin);
+ * - slots: of its medium, which has 1 + 6 * slots sectors; 0 where it holds no copy of that (etcs_unit_begin);
  * - packets: that the telegrams of one group have together, at most (264: eight telegrams of 33);
  * - restrictions: temporary speed restrictions in force at once, from 1 km behind the train onward, with those ahead;
  * - gradients, speeds: segments of the gradient profile and of the static speed profile, from 1 km behind the train onward,

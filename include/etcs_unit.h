@@ -4,10 +4,9 @@
  *
  * Link with libetcs_unit.a or libetcs_unit.so, which `tools/library PREFIX` builds and installs with this header.
  *
- * The unit opens no file and calls nothing back. Its journal lies on a medium of the maker's own. The unit holds a copy
- * of the medium's sectors, or only some of them (below), and says what is to be done on the medium: a list of requests,
- * each to write some sectors or to sync. The maker carries them out in their order, says how many are done, and only then
- * gets outputs:
+ * The unit opens no file and calls nothing back. Its journal lies on a medium of the maker's own. The unit says what is to
+ * be done on the medium, one request after the other: to read a sector, to write some, or to sync. The maker carries out
+ * each, and only then gets outputs:
  *
  *     etcs_unit unit = {0};
  *     etcs_unit_output outputs[ETCS_UNIT_OUTPUTS];
@@ -15,7 +14,7 @@
  *     uint32_t count;
  *
  *     obey(&command);
- *     if (etcs_unit_open(&unit, image, size, ETCS_COLD_UNKNOWN) != ETCS_UNIT_OK || !carry_out(&unit)
+ *     if (etcs_unit_begin(&unit, sectors, ETCS_COLD_UNKNOWN) != ETCS_UNIT_OK || !carry_out(&unit)
  *         || etcs_unit_release(&unit, outputs, ETCS_UNIT_OUTPUTS, &count) != ETCS_UNIT_OK) {
  *         brake();
  *         return;
@@ -32,30 +31,25 @@
  *     }
  *     etcs_unit_close(&unit);
  *
- * where carry_out takes request after request, 0 and on, until one answers ETCS_UNIT_NO_SUCH_REQUEST, and then calls
- * etcs_unit_done with their number, or etcs_unit_fail where the medium failed. etcs_file.h has one for a POSIX file, and
- * etcs_executive.h has this loop with all that a cycle owes. The release of a power-up hands out no output: until the first
- * one, obey the emergency brake, with which `command` begins.
+ * where carry_out is one loop, at power-up and in each cycle:
  *
- * A unit that holds no copy of its medium takes as much memory whatever the medium's size. It is powered up in steps, each
- * as far as sectors are known; the maker reads the sector that is wanted, and hands it in:
+ *     while ((status = etcs_unit_request(unit, &request, bytes, sizeof bytes)) == ETCS_UNIT_OK) {
+ *         if (request.kind == ETCS_REQUEST_READ && read_sector(request.sector, bytes))
+ *             status = etcs_unit_provide(unit, request.sector, bytes, ETCS_UNIT_SECTOR);
+ *         else if (request.kind != ETCS_REQUEST_READ && do_on_medium(&request, bytes))
+ *             status = etcs_unit_done(unit);
+ *         else
+ *             return etcs_unit_fail(unit), 0;
+ *         if (status != ETCS_UNIT_OK)
+ *             return 0;
+ *     }
+ *     return status == ETCS_UNIT_NO_SUCH_REQUEST;
  *
- *     etcs_opening opening = {0};
- *     uint8_t bytes[ETCS_UNIT_SECTOR];
- *     uint64_t sector;
- *     uint32_t status = etcs_opening_begin(&opening, sectors, ETCS_COLD_UNKNOWN);
+ * etcs_file.h has one for a POSIX file, and etcs_executive.h has all that a cycle owes. The release of a power-up hands out
+ * no output: until the first one, obey the emergency brake, with which `command` begins.
  *
- *     if (status == ETCS_UNIT_OK)
- *         status = etcs_opening_go_on(&opening, &unit);
- *     while (status == ETCS_UNIT_SECTOR_WANTED && etcs_opening_wanted(&opening, &sector) == ETCS_UNIT_OK
- *            && read_sector(sector, bytes)
- *            && etcs_opening_provide(&opening, sector, bytes, ETCS_UNIT_SECTOR) == ETCS_UNIT_OK)
- *         status = etcs_opening_go_on(&opening, &unit);
- *     if (status != ETCS_UNIT_OK)
- *         brake();
- *
- * Its etcs_unit_prepare may answer ETCS_UNIT_SECTOR_WANTED too: then the sector that etcs_unit_wanted returns is read and
- * handed in by etcs_unit_provide, and etcs_unit_prepare is called again. All else is as over a copy.
+ * Such a unit takes as much memory whatever the medium's size. Where all sectors are in memory already, etcs_unit_open takes
+ * them in place of etcs_unit_begin, and keeps a copy; such a unit never asks for a read.
  *
  * ANY ANSWER BUT ETCS_UNIT_OK MEANS THE EMERGENCY BRAKE, unless it is a mistake that is put right before the next
  * output is due: etcs_status_classify sorts the answers. Hold that brake, whatever is released, until the unit was closed
@@ -65,22 +59,22 @@
  * Every call returns, whatever numbers it is handed, and answers a number of enum etcs_unit_status. A null pointer is
  * answered with ETCS_UNIT_NULL_POINTER. What no call can test, the caller owes:
  *
- * - an etcs_unit and an etcs_opening are all zeros before their first call, and from then on hold only what these calls
- *   left there; while one is open nobody copies it, moves it or writes to it;
+ * - an etcs_unit is all zeros before its first call, and from then on holds only what these calls left there; until it is
+ *   closed nobody copies it, moves it or writes to it;
  * - each other pointer is good for what it points to: a buffer for its length, a struct for its size; nobody else
  *   writes there, and none of them overlap, while the call runs;
  * - the sectors that are handed to etcs_unit_open are those of the medium, a sector that is handed in later is what the
  *   medium holds then, of which each request that was said to be done was carried out, and nobody but this unit writes
- *   there while it, or its opening, is open;
+ *   there from its power-up until it is closed;
  * - requests are carried out in their order, each whole before the next one, and are said to be done only then;
  * - the value on movements without power is true (ETCS_COLD_UNKNOWN in doubt, and where a unit is opened after a fault).
  *
  * A unit is for one call at a time. It may be handed from one task to another, as from the one that opens it to a cyclic
- * one, where a lock (or a queue, or the start of the task) orders their calls: the library keeps nothing except its units
- * and openings, and nothing per thread. Units share nothing, so different ones may be called from different threads at
- * once; but where memory is of the maker's own, see etcs_memory.h. Memory is taken by etcs_unit_open, etcs_opening_begin and
- * etcs_opening_go_on, and by the calls that take an input; close gives all of it back. No call blocks, and none is for a
- * signal handler or an interrupt.
+ * one, where a lock (or a queue, or the start of the task) orders their calls: the library keeps nothing except its units,
+ * and nothing per thread. Units share nothing, so different ones may be called from different threads at once; but where
+ * memory is of the maker's own, see etcs_memory.h. Memory is taken by etcs_unit_open, by etcs_unit_begin and
+ * etcs_unit_provide until the power-up is through, and by the calls that take an input; close gives all of it back. No call
+ * blocks, and none is for a signal handler or an interrupt.
  *
  * Each call that this header defines stands in the library too, by the same name: for Ada, Python, and who else reads no
  * header. There the number of the interface isn't compared: compare etcs_abi first.
@@ -107,7 +101,7 @@ extern "C" {
 #endif
 
 /** The number of this interface: counted up with each change that a caller can see. */
-#define ETCS_UNIT_ABI 5
+#define ETCS_UNIT_ABI 6
 
 /** The bytes of the version, at most. */
 #define ETCS_VERSION_BYTES 32
@@ -135,8 +129,7 @@ enum etcs_proof {
  *
  * - 1 to 6, opening: no unit was opened, and the medium is to be left as it is.
  * - 10 to 13, taking an input: nothing changed.
- * - 21 to 24, preparing and releasing: nothing is released; 24 also opening in steps, which goes on then.
- * - 25, asking for a sector.
+ * - 21 to 23, preparing and releasing: nothing is released.
  * - 31 to 39, reading an image (etcs_image.h): nothing is written.
  * - 41, formatting.
  * - 247 to 255, the call itself: nothing changed. */
@@ -157,13 +150,9 @@ enum etcs_unit_status {
     ETCS_UNIT_INPUT_FAILED = 13, /**< the medium failed before: close, and open again */
 
     /* preparing and releasing */
-    ETCS_UNIT_FAILED = 21,        /**< the medium failed: close, and open again */
+    ETCS_UNIT_FAILED = 21,        /**< the medium failed: close, and begin again */
     ETCS_UNIT_REQUESTS_OWED = 22, /**< requests aren't done, or not released yet */
     ETCS_UNIT_WORN_OUT = 23,      /**< there is no block number after 2^40: a new medium */
-    ETCS_UNIT_SECTOR_WANTED = 24, /**< a sector has to be handed in first (etcs_unit_wanted, etcs_opening_wanted); call again after it */
-
-    /* asking for a sector */
-    ETCS_UNIT_NONE_WANTED = 25, /**< no sector is wanted */
 
     /* reading an image */
     ETCS_UNIT_IMAGE_NOT_FORMATTED = 31, /**< the first sector isn't that of a journal, or there is none */
@@ -179,10 +168,9 @@ enum etcs_unit_status {
 
     /* the call itself */
     ETCS_UNIT_NOT_RELEASED = 247,    /**< an input is pending, or requests aren't released yet: release first */
-    ETCS_UNIT_WRONG_COUNT = 248,     /**< more requests were said to be done than there are, or fewer than before */
-    ETCS_UNIT_NO_SUCH_REQUEST = 249, /**< the list ends before it */
-    ETCS_UNIT_NOT_OPEN = 250,        /**< the unit, or the opening, is closed, or was never opened */
-    ETCS_UNIT_IS_OPEN = 251,         /**< the unit, or the opening, is open already */
+    ETCS_UNIT_NO_SUCH_REQUEST = 249, /**< nothing is to be done on the medium */
+    ETCS_UNIT_NOT_OPEN = 250,        /**< the unit is closed, was never opened, or its power-up isn't through yet */
+    ETCS_UNIT_IS_OPEN = 251,         /**< the unit is open already, or its power-up is under way */
     ETCS_UNIT_NO_ROOM = 252,         /**< the buffer is too small */
     ETCS_UNIT_NULL_POINTER = 253,    /**< a pointer is null */
     ETCS_UNIT_OTHER_ABI = 254,       /**< the header is of another interface than the library */
@@ -259,7 +247,7 @@ enum etcs_indication {
 };
 
 /** What is to be done on the medium. */
-enum etcs_request_kind { ETCS_REQUEST_WRITE = 1, ETCS_REQUEST_SYNC = 2 };
+enum etcs_request_kind { ETCS_REQUEST_WRITE = 1, ETCS_REQUEST_SYNC = 2, ETCS_REQUEST_READ = 3 };
 
 /** Why a brake is commanded: the rows of the brake table, by their places in etcs_unit_why and etcs_why
  * (docs/explain/brakes.md, which says how each ends). The first six command the emergency brake. */
@@ -310,17 +298,13 @@ enum etcs_acknowledgement {
     ETCS_ACKNOWLEDGEMENT_OWED = 2   /**< after the transition: 5 s later the service brake comes */
 };
 
-/** A unit, in the caller's memory. Its fields are the library's. */
+/** A unit, in the caller's memory, from its power-up on. Its fields are the library's. */
 typedef struct {
-    void *at;         /**< where the unit is */
-    uint64_t is_open; /**< 1 where it is open, else 0 */
+    void *at;              /**< where the unit is */
+    uint64_t is_open;      /**< 1 where it is open, else 0 */
+    void *power_up;        /**< where its power-up is */
+    uint64_t is_under_way; /**< 1 where that is under way, else 0 */
 } etcs_unit;
-
-/** A power-up that is under way, in the caller's memory. Its fields are the library's. */
-typedef struct {
-    void *at;         /**< where the power-up is */
-    uint64_t is_open; /**< 1 where one is under way, else 0 */
-} etcs_opening;
 
 /** An output that may reach the train. */
 typedef struct {
@@ -334,8 +318,8 @@ typedef struct {
 
 /** Something to be done on the medium. */
 typedef struct {
-    uint64_t sector;  /**< of a write: the first sector, from 0 on; else 0 */
-    uint64_t sectors; /**< of a write: how many sectors, with ETCS_UNIT_SECTOR bytes each; else 0 */
+    uint64_t sector;  /**< of a read or a write: the first sector, from 0 on; else 0 */
+    uint64_t sectors; /**< of a read 1; of a write how many sectors, with ETCS_UNIT_SECTOR bytes each; else 0 */
     uint64_t kind;    /**< enum etcs_request_kind */
 } etcs_unit_request_info;
 
@@ -514,7 +498,7 @@ typedef struct {
 } etcs_packet_unused;
 
 /* (where a pointer has fewer than 64 bits, a number of 64 bits may stand at other places: such a machine has the C source alone) */
-ETCS_UNIT_ASSERT((sizeof(void *) < 8u) || ((sizeof(etcs_unit) == 16u) && (offsetof(etcs_unit, is_open) == 8u)));
+ETCS_UNIT_ASSERT((sizeof(void *) < 8u) || ((sizeof(etcs_unit) == 32u) && (offsetof(etcs_unit, is_under_way) == 24u)));
 ETCS_UNIT_ASSERT(sizeof(etcs_unit_output) == 16u && offsetof(etcs_unit_output, limit_m_per_h) == 8u && offsetof(etcs_unit_output, mode) == 12u
                  && offsetof(etcs_unit_output, level) == 13u && offsetof(etcs_unit_output, brake) == 14u && offsetof(etcs_unit_output, indications) == 15u);
 ETCS_UNIT_ASSERT(sizeof(etcs_unit_request_info) == 24u && offsetof(etcs_unit_request_info, sectors) == 8u && offsetof(etcs_unit_request_info, kind) == 16u);
@@ -543,6 +527,7 @@ ETCS_UNIT_ASSERT(sizeof(etcs_packet_unused) == 24u && offsetof(etcs_packet_unuse
 
 uint32_t etcs_version_(uint8_t *out, uint64_t room, uint32_t *len);
 uint32_t etcs_build_info_(uint8_t *out, uint64_t room, uint32_t *len);
+uint32_t etcs_unit_begin_(etcs_unit *unit, uint64_t sectors, uint32_t cold, uint32_t abi);
 uint32_t etcs_unit_open_(etcs_unit *unit, const uint8_t *image, uint64_t len, uint32_t cold, uint32_t abi);
 uint32_t etcs_unit_telegram_(etcs_unit *unit, const uint8_t *bytes, uint64_t len);
 uint32_t etcs_unit_odometer_(etcs_unit *unit, int64_t movement_cm, uint32_t speed_m_per_h);
@@ -551,16 +536,10 @@ uint32_t etcs_unit_action_(etcs_unit *unit, uint32_t action);
 uint32_t etcs_unit_identity_(etcs_unit *unit, const uint8_t *bytes, uint64_t len);
 uint32_t etcs_unit_running_number_(etcs_unit *unit, uint32_t number);
 uint32_t etcs_unit_train_data_(etcs_unit *unit, const etcs_train_data *data);
-uint32_t etcs_opening_begin_(etcs_opening *opening, uint64_t sectors, uint32_t cold, uint32_t abi);
-uint32_t etcs_opening_go_on_(etcs_opening *opening, etcs_unit *unit);
-uint32_t etcs_opening_wanted_(etcs_opening *opening, uint64_t *sector);
-uint32_t etcs_opening_provide_(etcs_opening *opening, uint64_t sector, const uint8_t *bytes, uint64_t size);
-uint32_t etcs_opening_close_(etcs_opening *opening);
-uint32_t etcs_unit_wanted_(etcs_unit *unit, uint64_t *sector);
 uint32_t etcs_unit_provide_(etcs_unit *unit, uint64_t sector, const uint8_t *bytes, uint64_t size);
 uint32_t etcs_unit_prepare_(etcs_unit *unit);
-uint32_t etcs_unit_request_(etcs_unit *unit, uint32_t index, etcs_unit_request_info *request, uint8_t *bytes, uint64_t room);
-uint32_t etcs_unit_done_(etcs_unit *unit, uint32_t count);
+uint32_t etcs_unit_request_(etcs_unit *unit, etcs_unit_request_info *request, uint8_t *bytes, uint64_t room);
+uint32_t etcs_unit_done_(etcs_unit *unit);
 uint32_t etcs_unit_fail_(etcs_unit *unit);
 uint32_t etcs_unit_release_(etcs_unit *unit, etcs_unit_output *outputs, uint64_t room, uint32_t *count);
 uint32_t etcs_unit_state_(etcs_unit *unit, etcs_unit_state_info *state);
@@ -691,7 +670,7 @@ static inline const char *etcs_status_kind_name(uint32_t number) {
 
 /** Returns the name of a number of enum etcs_request_kind; "unknown" for other numbers. */
 static inline const char *etcs_request_kind_name(uint32_t number) {
-    static const char *const names[] = {NULL, "write", "sync"};
+    static const char *const names[] = {NULL, "write", "sync", "read"};
     return etcs_name_(names, (uint32_t)(sizeof names / sizeof names[0]), number);
 }
 
@@ -739,8 +718,6 @@ static inline const char *etcs_status_name(uint32_t status) {
     case (uint32_t)ETCS_UNIT_FAILED: text = "FAILED"; break;
     case (uint32_t)ETCS_UNIT_REQUESTS_OWED: text = "REQUESTS_OWED"; break;
     case (uint32_t)ETCS_UNIT_WORN_OUT: text = "WORN_OUT"; break;
-    case (uint32_t)ETCS_UNIT_SECTOR_WANTED: text = "SECTOR_WANTED"; break;
-    case (uint32_t)ETCS_UNIT_NONE_WANTED: text = "NONE_WANTED"; break;
     case (uint32_t)ETCS_UNIT_IMAGE_NOT_FORMATTED: text = "IMAGE_NOT_FORMATTED"; break;
     case (uint32_t)ETCS_UNIT_IMAGE_DAMAGED: text = "IMAGE_DAMAGED"; break;
     case (uint32_t)ETCS_UNIT_NO_SUCH_SLOT: text = "NO_SUCH_SLOT"; break;
@@ -750,7 +727,6 @@ static inline const char *etcs_status_name(uint32_t status) {
     case (uint32_t)ETCS_UNIT_NOT_REPLAYED: text = "NOT_REPLAYED"; break;
     case (uint32_t)ETCS_UNIT_BAD_SLOTS: text = "BAD_SLOTS"; break;
     case (uint32_t)ETCS_UNIT_NOT_RELEASED: text = "NOT_RELEASED"; break;
-    case (uint32_t)ETCS_UNIT_WRONG_COUNT: text = "WRONG_COUNT"; break;
     case (uint32_t)ETCS_UNIT_NO_SUCH_REQUEST: text = "NO_SUCH_REQUEST"; break;
     case (uint32_t)ETCS_UNIT_NOT_OPEN: text = "NOT_OPEN"; break;
     case (uint32_t)ETCS_UNIT_IS_OPEN: text = "IS_OPEN"; break;
@@ -780,10 +756,7 @@ static inline uint32_t etcs_status_classify(uint32_t status, uint32_t source) {
         break;
     case (uint32_t)ETCS_UNIT_PENDING_FULL:
     case (uint32_t)ETCS_UNIT_REQUESTS_OWED:
-    case (uint32_t)ETCS_UNIT_SECTOR_WANTED:
-    case (uint32_t)ETCS_UNIT_NONE_WANTED:
     case (uint32_t)ETCS_UNIT_NOT_RELEASED:
-    case (uint32_t)ETCS_UNIT_WRONG_COUNT:
     case (uint32_t)ETCS_UNIT_NO_SUCH_REQUEST:
     case (uint32_t)ETCS_UNIT_IS_OPEN:
     case (uint32_t)ETCS_UNIT_NO_ROOM:
@@ -797,74 +770,24 @@ static inline uint32_t etcs_status_classify(uint32_t status, uint32_t source) {
     return kind;
 }
 
-/** Powers up a unit on the bytes of its medium: `len` bytes, all of it, of which the unit keeps a copy. Call it after each
- * power-up, and after a failure. Then carry out the requests in the list, say that they are done, and release: that hands
- * out no output, so obey the emergency brake until the next release. Returns OK, IS_OPEN, OTHER_ABI, OUT_OF_RANGE (`cold`),
- * or a status of opening. After any answer but OK the unit is as before. It takes memory for the copy, some 9 kB of
- * requests, and the unit. */
+/** Begins a power-up on a medium of this many sectors. Call it after each power-up, and after a failure; then carry out what
+ * etcs_unit_request reports, and release: that hands out no output, so obey the emergency brake until the next release. The
+ * power-up reads the first sector, of each slot the gate, and the head where the gate is open, then the six sectors of the
+ * newest block's slot, and the gate of the next one. Until then the unit isn't open. Returns OK, IS_OPEN, OTHER_ABI,
+ * OUT_OF_RANGE (`cold`), OPEN_NO_MEMORY, or OPEN_NOT_FORMATTED where `sectors` is 0. After any answer but OK nothing has
+ * changed. It takes memory for 16 sectors and some 9 kB of requests, whatever the medium's size. */
+ETCS_MUST_USE
+static inline uint32_t etcs_unit_begin(etcs_unit *unit, uint64_t sectors, uint32_t cold) {
+    return (unit != NULL) ? etcs_unit_begin_(unit, sectors, cold, ETCS_UNIT_ABI) : (uint32_t)ETCS_UNIT_NULL_POINTER;
+}
+
+/** Powers up a unit on the bytes of its medium: `len` bytes, all of it, of which the unit keeps a copy. Call it in place of
+ * etcs_unit_begin, where all of them are in memory. The unit is open then, with the requests of its power-up. Returns OK,
+ * IS_OPEN, OTHER_ABI, OUT_OF_RANGE (`cold`), or a status of opening. After any answer but OK the unit is as before. It takes
+ * memory for the copy, some 9 kB of requests, and the unit. */
 ETCS_MUST_USE
 static inline uint32_t etcs_unit_open(etcs_unit *unit, const uint8_t *image, size_t len, uint32_t cold) {
     return ((unit != NULL) && (image != NULL)) ? etcs_unit_open_(unit, image, len, cold, ETCS_UNIT_ABI) : (uint32_t)ETCS_UNIT_NULL_POINTER;
-}
-
-/* ---- a power-up over a medium that isn't copied: a unit that is opened so holds 16 sectors and its requests, whatever the
- * medium's size. It wants the first sector, of each slot the gate, and the head where the gate is open, then the six sectors
- * of the newest block's slot, and the gate of the next one. */
-
-/** Begins a power-up on a medium of this many sectors, without a copy of it. Call it in place of etcs_unit_open, and then
- * etcs_opening_go_on. Returns OK, IS_OPEN, OTHER_ABI, OUT_OF_RANGE (`cold`) or OPEN_NO_MEMORY. After any answer but OK
- * nothing has changed. */
-ETCS_MUST_USE
-static inline uint32_t etcs_opening_begin(etcs_opening *opening, uint64_t sectors, uint32_t cold) {
-    return (opening != NULL) ? etcs_opening_begin_(opening, sectors, cold, ETCS_UNIT_ABI) : (uint32_t)ETCS_UNIT_NULL_POINTER;
-}
-
-/** Goes on with a power-up as far as sectors are known. Call it after etcs_opening_begin, and after each sector that was
- * handed in. OK: the opening is closed and the unit is open, as etcs_unit_open leaves one, with the requests of the
- * power-up in the list. SECTOR_WANTED: hand in the sector that etcs_opening_wanted returns, and call again. A status of
- * opening: the opening is closed, no unit is open, and the medium is to be left as it is. IS_OPEN (the unit is open
- * already) and NOT_OPEN (no opening is): nothing has changed. */
-ETCS_MUST_USE
-static inline uint32_t etcs_opening_go_on(etcs_opening *opening, etcs_unit *unit) {
-    return ((opening != NULL) && (unit != NULL)) ? etcs_opening_go_on_(opening, unit) : (uint32_t)ETCS_UNIT_NULL_POINTER;
-}
-
-/** Writes to `sector` which sector the opening needs next, from 0 on. Call it where etcs_opening_go_on answered
- * SECTOR_WANTED. Once any sector is handed in it answers NONE_WANTED, until etcs_opening_go_on answers SECTOR_WANTED again.
- * Returns OK, NONE_WANTED or NOT_OPEN; `sector` is written only with OK. */
-ETCS_MUST_USE
-static inline uint32_t etcs_opening_wanted(etcs_opening *opening, uint64_t *sector) {
-    return ((opening != NULL) && (sector != NULL)) ? etcs_opening_wanted_(opening, sector) : (uint32_t)ETCS_UNIT_NULL_POINTER;
-}
-
-/** Hands in the bytes of a sector of the medium: ETCS_UNIT_SECTOR bytes. Call it with the sector that etcs_opening_wanted
- * returned. Returns OK, NOT_OPEN, or OUT_OF_RANGE where the medium has no such sector or `size` is another one. After any
- * answer but OK nothing has changed. */
-ETCS_MUST_USE
-static inline uint32_t etcs_opening_provide(etcs_opening *opening, uint64_t sector, const uint8_t *bytes, size_t size) {
-    return ((opening != NULL) && (bytes != NULL)) ? etcs_opening_provide_(opening, sector, bytes, size) : (uint32_t)ETCS_UNIT_NULL_POINTER;
-}
-
-/** Abandons a power-up and gives its memory back. Call it where a sector can't be read. Nothing was written to the medium.
- * Returns OK, or NOT_OPEN, which is allowed. */
-static inline uint32_t etcs_opening_close(etcs_opening *opening) {
-    return (opening != NULL) ? etcs_opening_close_(opening) : (uint32_t)ETCS_UNIT_NULL_POINTER;
-}
-
-/** Writes to `sector` which sector the unit needs next, from 0 on. Call it where etcs_unit_prepare answered SECTOR_WANTED.
- * Once any sector is handed in it answers NONE_WANTED, until etcs_unit_prepare answers SECTOR_WANTED again. Returns OK,
- * NONE_WANTED or NOT_OPEN; `sector` is written only with OK. */
-ETCS_MUST_USE
-static inline uint32_t etcs_unit_wanted(etcs_unit *unit, uint64_t *sector) {
-    return ((unit != NULL) && (sector != NULL)) ? etcs_unit_wanted_(unit, sector) : (uint32_t)ETCS_UNIT_NULL_POINTER;
-}
-
-/** Hands in the bytes of a sector of the medium: ETCS_UNIT_SECTOR bytes. Call it with the sector that etcs_unit_wanted
- * returned. Returns OK, NOT_OPEN, or OUT_OF_RANGE where the medium has no such sector or `size` is another one. After any
- * answer but OK nothing has changed. */
-ETCS_MUST_USE
-static inline uint32_t etcs_unit_provide(etcs_unit *unit, uint64_t sector, const uint8_t *bytes, size_t size) {
-    return ((unit != NULL) && (bytes != NULL)) ? etcs_unit_provide_(unit, sector, bytes, size) : (uint32_t)ETCS_UNIT_NULL_POINTER;
 }
 
 /* ---- inputs: each takes one input into memory, also while requests are carried out. Nothing is released. They answer
@@ -917,39 +840,50 @@ static inline uint32_t etcs_unit_train_data(etcs_unit *unit, const etcs_train_da
 /* ---- from inputs to outputs */
 
 /** Turns the accepted inputs into requests for the medium, and holds their outputs back. Call it once a cycle, after the
- * inputs; without inputs the list stays empty. Then carry out the requests. Returns OK, NOT_OPEN, or a status of preparing.
- * SECTOR_WANTED comes only where the unit holds no copy of its medium: hand in the sector that etcs_unit_wanted returns,
- * and call again. */
+ * inputs; without inputs the list stays empty. Then carry out what etcs_unit_request reports. Where the unit holds no copy
+ * of its medium that may be to read a sector first. Returns OK, NOT_OPEN, or a status of preparing. */
 ETCS_MUST_USE
 static inline uint32_t etcs_unit_prepare(etcs_unit *unit) {
     return (unit != NULL) ? etcs_unit_prepare_(unit) : (uint32_t)ETCS_UNIT_NULL_POINTER;
 }
 
-/** Writes a request of the list, from 0 on, and the bytes that it writes. Call it for each request in turn, until it answers
- * NO_SUCH_REQUEST, and carry each out before the next one. Returns OK, NOT_OPEN, NO_SUCH_REQUEST, or NO_ROOM where the
- * request writes more than `room` bytes; nothing is written but with OK. ETCS_UNIT_REQUEST_BYTES are always enough. */
+/** Writes what is to be done next on the medium, and the bytes of a write. Call it until it answers NO_SUCH_REQUEST, at
+ * power-up and in each cycle, and carry out each request before the next call: after a READ call etcs_unit_provide, after a
+ * WRITE or a SYNC etcs_unit_done, and etcs_unit_fail where the medium failed. It reports the same request until then.
+ * Returns OK, NOT_OPEN, NO_SUCH_REQUEST, or NO_ROOM where the request writes more than `room` bytes; nothing is written but
+ * with OK. ETCS_UNIT_REQUEST_BYTES are always enough. */
 ETCS_MUST_USE
-static inline uint32_t etcs_unit_request(etcs_unit *unit, uint32_t index, etcs_unit_request_info *request, uint8_t *bytes, size_t room) {
-    return ((unit != NULL) && (request != NULL) && (bytes != NULL)) ? etcs_unit_request_(unit, index, request, bytes, room) : (uint32_t)ETCS_UNIT_NULL_POINTER;
+static inline uint32_t etcs_unit_request(etcs_unit *unit, etcs_unit_request_info *request, uint8_t *bytes, size_t room) {
+    return ((unit != NULL) && (request != NULL) && (bytes != NULL)) ? etcs_unit_request_(unit, request, bytes, room) : (uint32_t)ETCS_UNIT_NULL_POINTER;
 }
 
-/** Reports that this many requests, counted from the first one of the list, are carried out. Call it after the last one
- * with their number, or after each with 1, 2, and so on. Returns OK, NOT_OPEN or WRONG_COUNT. */
+/** Hands in the bytes of a sector of the medium: ETCS_UNIT_SECTOR bytes. Call it where etcs_unit_request reported a READ,
+ * with its sector. The power-up, or the flush, goes on with it. Returns OK, NOT_OPEN, or OUT_OF_RANGE where the medium has no
+ * such sector or `size` is another one; then nothing has changed. A status of opening refuses the power-up: no unit is open,
+ * nothing was written, and the medium is to be left as it is. A status of preparing refuses the flush. */
 ETCS_MUST_USE
-static inline uint32_t etcs_unit_done(etcs_unit *unit, uint32_t count) {
-    return (unit != NULL) ? etcs_unit_done_(unit, count) : (uint32_t)ETCS_UNIT_NULL_POINTER;
+static inline uint32_t etcs_unit_provide(etcs_unit *unit, uint64_t sector, const uint8_t *bytes, size_t size) {
+    return ((unit != NULL) && (bytes != NULL)) ? etcs_unit_provide_(unit, sector, bytes, size) : (uint32_t)ETCS_UNIT_NULL_POINTER;
 }
 
-/** Reports that the medium failed. Call it where a request can't be carried out, or a sector can't be read. From then on
- * inputs answer INPUT_FAILED, and prepare and release FAILED: close the unit, and open it again. Returns OK or NOT_OPEN. */
+/** Reports that a WRITE or a SYNC is carried out: the one that etcs_unit_request reports. Returns OK, NOT_OPEN, or
+ * NO_SUCH_REQUEST where no WRITE or SYNC is to be done; then nothing has changed. */
+ETCS_MUST_USE
+static inline uint32_t etcs_unit_done(etcs_unit *unit) {
+    return (unit != NULL) ? etcs_unit_done_(unit) : (uint32_t)ETCS_UNIT_NULL_POINTER;
+}
+
+/** Reports that the medium failed. Call it where a request can't be carried out. From then on inputs answer INPUT_FAILED, and
+ * prepare and release FAILED: close the unit, and begin again. A power-up that isn't through yet is abandoned, as by
+ * etcs_unit_close: nothing was written. Returns OK or NOT_OPEN. */
 static inline uint32_t etcs_unit_fail(etcs_unit *unit) {
     return (unit != NULL) ? etcs_unit_fail_(unit) : (uint32_t)ETCS_UNIT_NULL_POINTER;
 }
 
 /** Hands out the outputs that were held back, all of them, into room for ETCS_UNIT_OUTPUTS, and empties the list. Call it
  * once all requests are done, and then etcs_unit_command. `count` is the number of outputs, the oldest first. Returns OK,
- * NOT_OPEN, NO_ROOM (fewer than ETCS_UNIT_OUTPUTS), FAILED, or REQUESTS_OWED where not all requests are done. After any
- * answer but OK nothing has changed, and neither an output nor `count` is written. */
+ * NOT_OPEN, NO_ROOM (fewer than ETCS_UNIT_OUTPUTS), FAILED, or REQUESTS_OWED where not all requests are carried out. After
+ * any answer but OK nothing has changed, and neither an output nor `count` is written. */
 ETCS_MUST_USE
 static inline uint32_t etcs_unit_release(etcs_unit *unit, etcs_unit_output *outputs, size_t room, uint32_t *count) {
     uint32_t released = 0;
@@ -1010,7 +944,8 @@ static inline uint32_t etcs_unit_driver(etcs_unit *unit, etcs_unit_driver_info *
     return ((unit != NULL) && (driver != NULL)) ? etcs_unit_driver_(unit, driver) : (uint32_t)ETCS_UNIT_NULL_POINTER;
 }
 
-/** Closes the unit, and gives its memory back. Call it at the end, and after a failure before the unit is opened again.
+/** Closes the unit, or abandons its power-up, and gives its memory back. Call it at the end, and after a failure before
+ * etcs_unit_begin.
  * Inputs that are pending and outputs that are held back are lost to this life; what was prepared may be found by the next
  * one. Returns OK, or NOT_OPEN, which is allowed. */
 static inline uint32_t etcs_unit_close(etcs_unit *unit) {

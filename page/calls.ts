@@ -28,8 +28,8 @@ interface Exports {
     etcs_unit_running_number_(unit: bigint, number: number): number;
     etcs_unit_train_data_(unit: bigint, data: bigint): number;
     etcs_unit_prepare_(unit: bigint): number;
-    etcs_unit_request_(unit: bigint, index: number, request: bigint, bytes: bigint, room: bigint): number;
-    etcs_unit_done_(unit: bigint, count: number): number;
+    etcs_unit_request_(unit: bigint, request: bigint, bytes: bigint, room: bigint): number;
+    etcs_unit_done_(unit: bigint): number;
     etcs_unit_release_(unit: bigint, outputs: bigint, room: bigint, count: bigint): number;
     etcs_unit_state_(unit: bigint, state: bigint): number;
     etcs_unit_close_(unit: bigint): number;
@@ -189,11 +189,11 @@ export class Calls {
         return this.with(new Uint8Array(view.buffer), held => this.x.etcs_unit_train_data_(unit, held.at));
     }
     prepare(unit: bigint): number { return this.x.etcs_unit_prepare_(unit); }
-    request(unit: bigint, index: number): Answer<{ request: Request; bytes: Uint8Array }> {
-        const status = this.x.etcs_unit_request_(unit, index, this.out, this.room, BigInt(BYTES.room));
+    request(unit: bigint): Answer<{ request: Request; bytes: Uint8Array }> {
+        const status = this.x.etcs_unit_request_(unit, this.out, this.room, BigInt(BYTES.room));
         return this.answer(status, (r, at) => this.asked(r, at));
     }
-    done(unit: bigint, count: number): number { return this.x.etcs_unit_done_(unit, count); }
+    done(unit: bigint): number { return this.x.etcs_unit_done_(unit); }
     state(unit: bigint): Answer<State> {
         return this.answer(this.x.etcs_unit_state_(unit, this.out), (r, at) => r.state(at));
     }

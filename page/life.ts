@@ -73,6 +73,8 @@ export const ACTIONS: Record<number, (values: (number|string)[]) => number> = {
 export class Life {
     private unit: bigint;
     private pending = 0;
+    /** The requests that are to be carried out before the next release. */
+    private list: Asked[] = [];
     /** Whether power was lost within a write: `etcs run` has no words for that. */
     isTorn = false;
     readonly steps: Step[] = [];
@@ -86,6 +88,7 @@ export class Life {
             calls.freeUnit(this.unit);
             throw new Refused(status);
         }
+        this.list = this.asked();
         this.carryOut();
     }
 
@@ -130,16 +133,13 @@ export class Life {
     /** Records what is pending, and answers what is released. A flush of its own stands in the scenario. */
     flush(isNoted = true): Output[] {
         if (this.pending && isNoted) this.steps.push({ flush: true });
-        must(this.calls.prepare(this.unit));
-        this.pending = 0;
+        this.prepare();
         return this.carryOut();
     }
 
     private carryOut(): Output[] {
-        const list = this.asked();
-        for (const { request, bytes } of list)
+        for (const { request, bytes } of this.list)
             if (request.isWrite) this.write(request, bytes);
-        must(this.calls.done(this.unit, list.length));
         const { status, value } = this.calls.release(this.unit);
         must(status);
         const released = value ?? [];
@@ -147,14 +147,15 @@ export class Life {
         return released;
     }
 
-    /** The requests of the list. */
-    asked(): Asked[] {
+    /** Takes all requests, for the page to show them: they are carried out later, but before anything is released. */
+    private asked(): Asked[] {
         const list: Asked[] = [];
-        for (let index = 0;; index++) {
-            const { status, value } = this.calls.request(this.unit, index);
+        for (;;) {
+            const { status, value } = this.calls.request(this.unit);
             if (status === NO_SUCH_REQUEST) return list;
             must(status);
             list.push(value as Asked);
+            must(this.calls.done(this.unit));
         }
     }
 
@@ -166,7 +167,8 @@ export class Life {
     prepare(): Asked[] {
         must(this.calls.prepare(this.unit));
         this.pending = 0;
-        return this.asked();
+        this.list = this.asked();
+        return this.list;
     }
 
     /** Carries out a list that was prepared, where no power was lost within it. */

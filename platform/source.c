@@ -128,16 +128,18 @@ uint32_t etcs_source_put(const void *from, uint64_t size, const char *fields) {
     return at;
 }
 
-uint32_t etcs_source_put_handle(const void *at, uint64_t is_open) {
-    const uint64_t both[2] = {(uint64_t)(uintptr_t)at, is_open};
-    return etcs_source_put(both, sizeof both, "8");
+uint32_t etcs_source_put_handle(const etcs_unit *unit) {
+    const uint64_t all[4] = {(uint64_t)(uintptr_t)unit->at, unit->is_open, (uint64_t)(uintptr_t)unit->power_up, unit->is_under_way};
+    return etcs_source_put(all, sizeof all, "8");
 }
 
-void etcs_source_get_handle(uint32_t from, void **at, uint64_t *is_open) {
-    uint64_t both[2];
-    etcs_source_read(both, from, sizeof both, "8");
-    *at = (void *)(uintptr_t)both[0];
-    *is_open = both[1];
+void etcs_source_get_handle(uint32_t from, etcs_unit *unit) {
+    uint64_t all[4];
+    etcs_source_read(all, from, sizeof all, "8");
+    unit->at = (void *)(uintptr_t)all[0];
+    unit->is_open = all[1];
+    unit->power_up = (void *)(uintptr_t)all[2];
+    unit->is_under_way = all[3];
 }
 
 int etcs_source_is_refused(void) {

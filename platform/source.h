@@ -16,12 +16,12 @@ void etcs_source_ends(void);
 /* Copies what a call is handed into the module's memory; the answer is where, or 0 where there is no room, which
  * etcs_source_is_refused reports then. `fields` has a digit for the bytes of each number of a struct. */
 uint32_t etcs_source_put(const void *from, uint64_t size, const char *fields);
-uint32_t etcs_source_put_handle(const void *at, uint64_t is_open);
+uint32_t etcs_source_put_handle(const etcs_unit *unit);
 int etcs_source_is_refused(void);
 
 /* Copies within the program: what the module wrote, or has to read. */
 void etcs_source_write(uint32_t at, const void *from, uint32_t size, const char *fields);
 void etcs_source_read(void *to, uint32_t at, uint32_t size, const char *fields);
-void etcs_source_get_handle(uint32_t from, void **at, uint64_t *is_open);
+void etcs_source_get_handle(uint32_t from, etcs_unit *unit);
 
 #endif

@@ -6,7 +6,7 @@ from pycparser import c_ast
 
 NUMBERS = {"uint8_t": "u8", "uint16_t": "u16", "uint32_t": "u32", "uint64_t": "u64", "int64_t": "i64", "size_t": "usize",
            "char": "c_char", "void": "c_void"}
-HANDLES = ("etcs_unit", "etcs_opening")
+HANDLES = ("etcs_unit",)
 SYS_HEAD = """//! What include/etcs.h, etcs_unit.h, etcs_image.h and etcs_guard.h declare, under the names of C. Written by `tools/bindings`.
 //!
 //! The headers say what each call answers, and what its caller owes. The calls whose names end with `_` test no pointers.

@@ -69,29 +69,40 @@ package body Etcs_Unit is
       end loop;
    end Format;
 
+   --  Carries out a request of the unit: hands in a sector that is to be read, or says that it is done.
+   procedure Serve (To : in out Unit; Request : Etcs_C.Unit_Request_Info_Struct; Content : Bytes) is
+      use type Etcs_C.Request_Kind;
+      Read : Sector;
+   begin
+      if Etcs_C.Request_Kind'Enum_Val (Integer (Request.Kind)) = Etcs_C.Read then
+         To.On.Read (Sector_Number (Request.Sector), Read);
+         Check (Etcs_C.Unit_Provide (To.Handle'Address, Request.Sector, Read'Address, Read'Length));
+      else
+         Carry_Out (To.On.all, Request, Content);
+         Check (Etcs_C.Unit_Done (To.Handle'Address));
+      end if;
+   end Serve;
+
    --  Carries out all requests, and returns the outputs. An exception of the medium makes the unit fail: it releases nothing more.
    function Release (To : in out Unit) return Outputs is
       Request : aliased Etcs_C.Unit_Request_Info_Struct;
       Content : Bytes (1 .. Etcs_C.Unit_Request_Bytes);
       Raw     : array (1 .. Etcs_C.Unit_Outputs) of aliased Etcs_C.Unit_Output_Struct with Convention => C;
       Count   : aliased Unsigned_32 := 0;
-      Done    : Unsigned_32 := 0;
       Answer  : Unsigned_32;
    begin
       loop
-         Answer := Etcs_C.Unit_Request (To.Handle'Address, Done, Request'Address, Content'Address, Content'Length);
+         Answer := Etcs_C.Unit_Request (To.Handle'Address, Request'Address, Content'Address, Content'Length);
          exit when Status (Answer) = Etcs_C.No_Such_Request;
          Check (Answer);
          begin
-            Carry_Out (To.On.all, Request, Content);
+            Serve (To, Request, Content);
          exception
             when others =>
-               Check (Etcs_C.Unit_Fail (To.Handle'Address));
+               Answer := Etcs_C.Unit_Fail (To.Handle'Address);
                raise;
          end;
-         Done := Done + 1;
       end loop;
-      Check (Etcs_C.Unit_Done (To.Handle'Address, Done));
       Check (Etcs_C.Unit_Release (To.Handle'Address, Raw'Address, Raw'Length, Count'Address));
       return Found : Outputs (1 .. Natural (Count)) do
          for Index in Found'Range loop
@@ -107,49 +118,25 @@ package body Etcs_Unit is
    end Release;
 
    function Open (To : in out Unit; Moved : Cold) return Outputs is
-      Opening : aliased Etcs_C.Opening_Struct := (Null_Address, 0);
-      Wanted  : aliased Unsigned_64 := 0;
-      Content : Sector;
-      Answer  : Unsigned_32;
    begin
-      Check (Etcs_C.Opening_Begin
-        (Opening'Address, Unsigned_64 (To.On.Sectors), Cold'Enum_Rep (Moved), Etcs_C.Unit_Abi));
-      loop
-         Answer := Etcs_C.Opening_Go_On (Opening'Address, To.Handle'Address);
-         exit when Status (Answer) /= Etcs_C.Sector_Wanted;
-         Check (Etcs_C.Opening_Wanted (Opening'Address, Wanted'Address));
-         To.On.Read (Sector_Number (Wanted), Content);
-         Check (Etcs_C.Opening_Provide (Opening'Address, Wanted, Content'Address, Content'Length));
-      end loop;
-      Check (Answer);
+      Check (Etcs_C.Unit_Begin
+        (To.Handle'Address, Unsigned_64 (To.On.Sectors), Cold'Enum_Rep (Moved), Etcs_C.Unit_Abi));
       return Release (To);
    exception
       when others =>
-         --  (an opening that ended or never began may be closed)
-         Answer := Etcs_C.Opening_Close (Opening'Address);
          Close (To);
          raise;
    end Open;
 
    function Flush (To : in out Unit) return Outputs is
-      Wanted  : aliased Unsigned_64 := 0;
-      Content : Sector;
-      Answer  : Unsigned_32;
    begin
-      loop
-         Answer := Etcs_C.Unit_Prepare (To.Handle'Address);
-         exit when Status (Answer) /= Etcs_C.Sector_Wanted;
-         Check (Etcs_C.Unit_Wanted (To.Handle'Address, Wanted'Address));
-         To.On.Read (Sector_Number (Wanted), Content);
-         Check (Etcs_C.Unit_Provide (To.Handle'Address, Wanted, Content'Address, Content'Length));
-      end loop;
-      Check (Answer);
+      Check (Etcs_C.Unit_Prepare (To.Handle'Address));
       return Release (To);
    end Flush;
 
    procedure Close (To : in out Unit) is
    begin
-      if Is_Open (To) then
+      if Is_Open (To) or else To.Handle.Is_Under_Way /= 0 then
          Check (Etcs_C.Unit_Close (To.Handle'Address));
       end if;
    end Close;

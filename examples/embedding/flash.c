@@ -1,5 +1,5 @@
 /* The journal on a flash, by a driver of the maker's own, without a file. The unit holds no copy of it: the driver reads the
- * sectors that are wanted. Memory is that of malloc (libetcs_unit.a); examples/bare_metal has a static buffer.
+ * sectors that it asks for. Memory is that of malloc (libetcs_unit.a); examples/bare_metal has a static buffer.
  * Power is lost after each number of requests of a flush, and the next power-up goes on from what is on the flash: either
  * all of the batch is there, or nothing of it, and none of its outputs reached the train before all of it was. Then a read
  * fails, in a flush and in a power-up.
@@ -20,6 +20,9 @@ static uint8_t cells[SECTORS * ETCS_UNIT_SECTOR];
 /* How many calls the flash still carries out before power is lost; below 0 there is no end. */
 static int calls_left = -1;
 
+/* Whether each read fails. */
+static int reads_fail;
+
 /* Whether there was power for a call. */
 static int has_power(void) {
     if (calls_left == 0)
@@ -30,7 +33,7 @@ static int has_power(void) {
 }
 
 static int flash_read(uint64_t sector, uint8_t *bytes) {
-    if (!has_power() || sector >= SECTORS)
+    if (!has_power() || reads_fail || sector >= SECTORS)
         return 0;
     memcpy(bytes, cells + sector * ETCS_UNIT_SECTOR, ETCS_UNIT_SECTOR);
     return 1;
@@ -64,19 +67,26 @@ static uint32_t format(void) {
     return status;
 }
 
-/* Carries out the list, and says that all of it is done. Where the flash fails it says so to the unit. */
+/* Carries out one request, and hands in what was read, or says that it is done. Where the flash fails it says so to the unit. */
+static uint32_t serve(etcs_unit *unit, const etcs_unit_request_info *request, uint8_t *bytes) {
+    const int is_read = request->kind == ETCS_REQUEST_READ;
+    if (is_read ? flash_read(request->sector, bytes) : flash_does(request, bytes))
+        return is_read ? etcs_unit_provide(unit, request->sector, bytes, ETCS_UNIT_SECTOR) : etcs_unit_done(unit);
+    etcs_unit_fail(unit);
+    return ETCS_UNIT_FAILED;
+}
+
+/* Carries out all that is to be done, at power-up and in each flush. */
 static uint32_t carry_out(etcs_unit *unit) {
     etcs_unit_request_info request;
     static uint8_t bytes[ETCS_UNIT_REQUEST_BYTES];
-    uint32_t status, count = 0;
-    while ((status = etcs_unit_request(unit, count, &request, bytes, sizeof bytes)) == ETCS_UNIT_OK) {
-        if (!flash_does(&request, bytes)) {
-            etcs_unit_fail(unit);
-            return ETCS_UNIT_FAILED;
-        }
-        count++;
+    uint32_t status;
+    while ((status = etcs_unit_request(unit, &request, bytes, sizeof bytes)) == ETCS_UNIT_OK) {
+        status = serve(unit, &request, bytes);
+        if (status != ETCS_UNIT_OK)
+            return status;
     }
-    return status == ETCS_UNIT_NO_SUCH_REQUEST ? etcs_unit_done(unit, count) : status;
+    return status == ETCS_UNIT_NO_SUCH_REQUEST ? (uint32_t)ETCS_UNIT_OK : status;
 }
 
 static uint32_t release(etcs_unit *unit, etcs_unit_output *outputs, uint32_t *count) {
@@ -84,50 +94,9 @@ static uint32_t release(etcs_unit *unit, etcs_unit_output *outputs, uint32_t *co
     return status == ETCS_UNIT_OK ? etcs_unit_release(unit, outputs, ETCS_UNIT_OUTPUTS, count) : status;
 }
 
-/* Goes on as far as it is known what the flash holds, and reads the sector that is wanted. Where that fails the opening is
- * given up: no unit is open, and nothing was written. */
-static uint32_t open_by_sectors(etcs_unit *unit) {
-    etcs_opening opening = {0};
-    uint8_t bytes[ETCS_UNIT_SECTOR];
-    uint64_t sector;
-    uint32_t status = etcs_opening_begin(&opening, SECTORS, ETCS_COLD_UNKNOWN);
-    if (status != ETCS_UNIT_OK)
-        return status;
-    while ((status = etcs_opening_go_on(&opening, unit)) == ETCS_UNIT_SECTOR_WANTED) {
-        status = etcs_opening_wanted(&opening, &sector);
-        if (status == ETCS_UNIT_OK)
-            status = flash_read(sector, bytes) ? etcs_opening_provide(&opening, sector, bytes, sizeof bytes) : (uint32_t)ETCS_UNIT_FAILED;
-        if (status != ETCS_UNIT_OK)
-            break;
-    }
-    if (status != ETCS_UNIT_OK)
-        etcs_opening_close(&opening);
-    return status;
-}
-
-/* The same of a flush: it has to be known whether the gate of the next slot is closed. Where the read fails, the unit has
- * failed, as after a write. */
-static uint32_t prepare(etcs_unit *unit) {
-    uint8_t bytes[ETCS_UNIT_SECTOR];
-    uint64_t sector;
-    uint32_t status;
-    while ((status = etcs_unit_prepare(unit)) == ETCS_UNIT_SECTOR_WANTED) {
-        status = etcs_unit_wanted(unit, &sector);
-        if (status == ETCS_UNIT_OK && !flash_read(sector, bytes)) {
-            etcs_unit_fail(unit);
-            return ETCS_UNIT_FAILED;
-        }
-        if (status == ETCS_UNIT_OK)
-            status = etcs_unit_provide(unit, sector, bytes, sizeof bytes);
-        if (status != ETCS_UNIT_OK)
-            break;
-    }
-    return status;
-}
-
 static uint32_t power_up(etcs_unit *unit) {
     etcs_unit_output outputs[ETCS_UNIT_OUTPUTS];
-    uint32_t count, status = open_by_sectors(unit);
+    uint32_t count, status = etcs_unit_begin(unit, SECTORS, ETCS_COLD_UNKNOWN);
     return status == ETCS_UNIT_OK ? release(unit, outputs, &count) : status;
 }
 
@@ -149,7 +118,7 @@ static uint32_t first_life(int requests, uint32_t *count) {
     if (status == ETCS_UNIT_OK)
         status = accept(&unit, BATCH);
     if (status == ETCS_UNIT_OK)
-        status = prepare(&unit);
+        status = etcs_unit_prepare(&unit);
     calls_left = requests;
     if (status == ETCS_UNIT_OK)
         status = release(&unit, outputs, count);
@@ -166,7 +135,7 @@ static uint32_t second_life(uint64_t *event) {
     if (status == ETCS_UNIT_OK)
         status = accept(&unit, 1);
     if (status == ETCS_UNIT_OK)
-        status = prepare(&unit);
+        status = etcs_unit_prepare(&unit);
     if (status == ETCS_UNIT_OK)
         status = release(&unit, outputs, &count);
     if (status == ETCS_UNIT_OK && count == 1)
@@ -199,26 +168,24 @@ static int loses_power(void) {
     return 0;
 }
 
-/* Flushes until a read is wanted, which fails; then closes the unit, and opens it again. */
+/* Flushes until a sector is read, which fails; then closes the unit, and opens it again. */
 static int fails_to_read(void) {
     etcs_unit unit = {0};
     etcs_unit_output outputs[ETCS_UNIT_OUTPUTS];
     uint32_t count, status = power_up(&unit);
     for (uint64_t moment = 100; status == ETCS_UNIT_OK && moment <= 100 * SLOTS; moment += 100) {
+        reads_fail = 1;
         status = etcs_unit_clock(&unit, moment);
-        calls_left = 0;
         if (status == ETCS_UNIT_OK)
-            status = prepare(&unit);
-        calls_left = -1;
+            status = etcs_unit_prepare(&unit);
         if (status == ETCS_UNIT_OK)
             status = release(&unit, outputs, &count);
     }
     const uint32_t input = etcs_unit_clock(&unit, 100 * SLOTS + 100);
-    printf("a read failed in a flush: prepare %s, the next input %s\n", etcs_status_name(status), etcs_status_name(input));
+    printf("a read failed in a flush: %s, the next input %s\n", etcs_status_name(status), etcs_status_name(input));
     etcs_unit_close(&unit);
-    calls_left = 0;
     const uint32_t closed = power_up(&unit);
-    calls_left = -1;
+    reads_fail = 0;
     const uint32_t opened = power_up(&unit);
     printf("a read failed in a power-up: %s; the next one: %s\n", etcs_status_name(closed), etcs_status_name(opened));
     etcs_unit_close(&unit);

@@ -96,13 +96,13 @@ static void carry_out(const etcs_unit_request_info *request) {
 static uint32_t flush(void) {
     etcs_unit_output outputs[ETCS_UNIT_OUTPUTS];
     etcs_unit_request_info request;
-    uint32_t count = 0;
-    while (etcs_unit_request(&unit, count, &request, bytes, sizeof bytes) == ETCS_UNIT_OK) {
-        carry_out(&request);
-        count++;
+    uint32_t count, status;
+    while ((status = etcs_unit_request(&unit, &request, bytes, sizeof bytes)) == ETCS_UNIT_OK) {
+        carry_out(&request); /* (a unit over a copy never reads) */
+        if ((status = etcs_unit_done(&unit)) != ETCS_UNIT_OK)
+            break;
     }
-    const uint32_t status = etcs_unit_done(&unit, count);
-    return status == ETCS_UNIT_OK ? etcs_unit_release(&unit, outputs, ETCS_UNIT_OUTPUTS, &count) : status;
+    return status == ETCS_UNIT_NO_SUCH_REQUEST ? etcs_unit_release(&unit, outputs, ETCS_UNIT_OUTPUTS, &count) : status;
 }
 
 static uint32_t take(const char *line) {

@@ -37,7 +37,7 @@ from .units._header import (ABI, BUILD_INFO_BYTES, OUTPUTS, REQUEST_BYTES, SECTO
 
 __all__ = ["ABI", "OUTPUTS", "REQUEST_BYTES", "SECTOR", "VERSION_BYTES", "Acknowledgement", "Action", "AnyUnit", "Brake",
            "BrakeCause", "Cold", "Datum", "Facts", "FileMedium", "Indication", "Kept", "Kind", "Level", "LimitCause", "Medium",
-           "MemoryMedium", "Mode", "Opening", "Output", "OverrideLeft", "Proof", "Record", "Refused", "SectorMedium", "SectorUnit", "Slot",
+           "MemoryMedium", "Mode", "Output", "OverrideLeft", "Proof", "Record", "Refused", "SectorMedium", "SectorUnit", "Slot",
            "SlotState", "State", "Status", "Target", "TrainData", "Unit", "UnitDriver", "UnitWhy", "Waiting", "Writable", "build_info",
            "build_proof", "decode", "facts", "first_request", "format_medium", "journal", "library", "records", "slots",
            "version"]
@@ -606,40 +606,19 @@ def slots(image: bytes) -> Iterator[Slot]:
                    (read.fault_record, read.fault_at) if read.has_fault else None)
 
 
-class _Handle:
-    """The library's data of a unit or of a power-up, and the calls on it."""
-
-    def __init__(self, kind: str, handle: ctypes.Structure) -> None:
-        self._kind, self._handle = kind, handle
-
-    def _status(self, name: str, *arguments: object) -> int:
-        return _called(f"etcs_{self._kind}_{name}_", ctypes.byref(self._handle), *arguments)
-
-    def _call(self, name: str, *arguments: object) -> None:
-        _check(self._status(name, *arguments))
-
-
-class _Wanting(_Handle):
-    """A unit or power-up that holds only some sectors of its medium."""
-
-    def wanted(self) -> int:
-        """The sector that is needed, until it is provided. NONE_WANTED if none is."""
-        sector = ctypes.c_uint64()
-        self._call("wanted", ctypes.byref(sector))
-        return sector.value
-
-    def provide(self, sector: int, data: bytes) -> None:
-        """Provides the 512 bytes of a sector, exactly as the medium holds them."""
-        self._call("provide", _number(sector, 64), data, len(data))
-
-
-class AnyUnit(_Handle, ABC):
+class AnyUnit(ABC):
     """The inputs and outputs of a unit, however much of its medium it holds. It is open inside a `with` block, and takes one
     call at a time, from one thread."""
 
     def __init__(self, medium: Writable, cold: Cold) -> None:
-        super().__init__("unit", _header.etcs_unit())
+        self._handle = _header.etcs_unit()
         self.medium, self.cold = medium, cold
+
+    def _status(self, name: str, *arguments: object) -> int:
+        return _called(f"etcs_unit_{name}_", ctypes.byref(self._handle), *arguments)
+
+    def _call(self, name: str, *arguments: object) -> None:
+        _check(self._status(name, *arguments))
 
     def __enter__(self) -> Self:
         self.open()
@@ -651,11 +630,7 @@ class AnyUnit(_Handle, ABC):
 
     @abstractmethod
     def _power_up(self) -> None:
-        """Opens the unit on what the medium holds."""
-
-    @abstractmethod
-    def _prepare(self) -> None:
-        """Turns pending events into requests."""
+        """Powers up on what the medium holds, or begins to."""
 
     def open(self) -> None:
         """Powers up on what the medium holds, and carries out the requests of the power-up."""
@@ -707,7 +682,7 @@ class AnyUnit(_Handle, ABC):
     def flush(self) -> list[Output]:
         """Writes pending events to the medium, and returns the outputs that may reach the train, the oldest first. If the
         medium raises, the unit has failed and releases nothing any more."""
-        self._prepare()
+        self._call("prepare")
         return self._release()
 
     def _release(self) -> list[Output]:
@@ -721,17 +696,21 @@ class AnyUnit(_Handle, ABC):
         try:
             yield
         except BaseException:
-            self._call("fail")
+            self._status("fail")
             raise
 
     def _carry_out(self) -> None:
         request, buffer = _header.etcs_unit_request_info(), ctypes.create_string_buffer(REQUEST_BYTES)
-        state = self.state()
-        for index in range(state.done, state.requests):
-            self._call("request", index, ctypes.byref(request), buffer, REQUEST_BYTES)
+        while (status := self._status("request", ctypes.byref(request), buffer, REQUEST_BYTES)) == Status.OK:
             with self._fails_with_its_medium():
-                _carry_out(self.medium, request, buffer)
-            self._call("done", index + 1)
+                self._serve(request, buffer)
+        if status != Status.NO_SUCH_REQUEST:
+            raise Refused(status)
+
+    def _serve(self, request: _header.etcs_unit_request_info, buffer: ctypes.Array[ctypes.c_char]) -> None:
+        """Carries out a request."""
+        _carry_out(self.medium, request, buffer)
+        self._call("done")
 
     def state(self) -> State:
         """The state of the unit."""
@@ -764,41 +743,8 @@ class Unit(AnyUnit):
         image = self._read()
         self._call("open", image, len(image), self.cold, ABI)
 
-    def _prepare(self) -> None:
-        self._call("prepare")
 
-
-class Opening(_Wanting):
-    """A power-up on a medium of `sectors` sectors. `with` begins it, and its end gives up a power-up that isn't complete.
-
-        with Opening(sectors, cold) as opening:
-            while not opening.go_on(unit):
-                sector = opening.wanted()
-                opening.provide(sector, read(sector))
-    """
-
-    def __init__(self, sectors: int, cold: Cold = Cold.UNKNOWN) -> None:
-        super().__init__("opening", _header.etcs_opening())
-        self.sectors, self.cold = sectors, cold
-
-    def __enter__(self) -> Self:
-        self._call("begin", _number(self.sectors, 64), self.cold, ABI)
-        return self
-
-    def __exit__(self, kind: type[BaseException] | None, error: BaseException | None,
-                 trace: TracebackType | None) -> None:
-        self._status("close")
-
-    def go_on(self, unit: "SectorUnit") -> bool:
-        """Continues until a sector is needed or the unit is open. True if the unit is open: then the requests of the power-up
-        are in its list. False if a sector is needed."""
-        status = self._status("go_on", ctypes.byref(unit._handle))
-        if status != Status.SECTOR_WANTED:
-            _check(status)
-        return status == Status.OK
-
-
-class SectorUnit(AnyUnit, _Wanting):
+class SectorUnit(AnyUnit):
     """A unit that holds 16 sectors, whatever the size of its medium, and reads the sectors that it needs: in a power-up the
     gate and the head of each slot, in a flush one gate."""
 
@@ -806,17 +752,15 @@ class SectorUnit(AnyUnit, _Wanting):
         super().__init__(medium, cold)
         self._sectors, self._read_sector = medium.sectors, medium.read_sector
 
-    def _hand_in(self, to: _Wanting) -> None:
-        sector = to.wanted()
-        to.provide(sector, self._read_sector(sector))
+    def provide(self, sector: int, data: bytes) -> None:
+        """Provides the 512 bytes of a sector, exactly as the medium holds them, before the unit asks for it."""
+        self._call("provide", _number(sector, 64), data, len(data))
 
     def _power_up(self) -> None:
-        with Opening(self._sectors(), self.cold) as opening:
-            while not opening.go_on(self):
-                self._hand_in(opening)
+        self._call("begin", _number(self._sectors(), 64), self.cold, ABI)
 
-    def _prepare(self) -> None:
-        while (status := self._status("prepare")) == Status.SECTOR_WANTED:
-            with self._fails_with_its_medium():
-                self._hand_in(self)
-        _check(status)
+    def _serve(self, request: _header.etcs_unit_request_info, buffer: ctypes.Array[ctypes.c_char]) -> None:
+        if request.kind == RequestKind.READ:
+            self.provide(request.sector, self._read_sector(request.sector))
+        else:
+            super()._serve(request, buffer)

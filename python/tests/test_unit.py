@@ -17,7 +17,7 @@ import gaknifur
 from gaknifur import lives, unit as units
 from gaknifur.lives import BrakeCause, Datum, KeptField, LimitCause, RecordField, TripCause, Verdict
 from gaknifur.unit import (Acknowledgement, Action, AnyUnit, Brake, Cold, FileMedium, Indication, Kept, Kind, Level, MemoryMedium, Mode,
-                           Opening, Output, Record, Refused, SectorUnit, SlotState, Status, TrainData, Unit, UnitDriver, UnitWhy, Waiting)
+                           Output, Record, Refused, SectorUnit, SlotState, Status, TrainData, Unit, UnitDriver, UnitWhy, Waiting)
 from gaknifur.units._header import Adaptation, Direction, DroppedVariable, Fault, Proof, RequestKind, Source, StatusKind, UnusedReason
 
 INCLUDE = Path(__file__).resolve().parents[2] / "include"
@@ -188,43 +188,16 @@ class BySectors(OverTheLibrary):
             with self.refused(Status.FAILED):
                 unit.flush()
 
-    def test_the_calls_of_an_opening(self) -> None:
-        medium, unit = MemoryMedium.formatted(2), SectorUnit(MemoryMedium.formatted(2))
-        opening = Opening(13)
-        self.closed(lambda: opening.go_on(unit), opening.wanted, lambda: opening.provide(0, bytes(SECTOR)))
-        with self.refused(Status.OUT_OF_RANGE), Opening(-1):
-            pass
-        with opening:
-            with self.refused(Status.IS_OPEN):
-                opening.__enter__()
-            with self.refused(Status.NONE_WANTED):
-                opening.wanted()
-            wanted = []
-            while not opening.go_on(unit):
-                wanted.append(opening.wanted())
-                for sector, size in ((13, SECTOR), (wanted[-1], SECTOR - 1), (wanted[-1], SECTOR + 1), (1 << 64, SECTOR)):
-                    with self.refused(Status.OUT_OF_RANGE):
-                        opening.provide(sector, bytes(size))
-                self.assertEqual(opening.wanted(), wanted[-1])
-                opening.provide(wanted[-1], medium.read_sector(wanted[-1]))
-            self.assertEqual(wanted, [0, 1, 7])
-            with self.refused(Status.NOT_OPEN):
-                opening.wanted()
-        with Opening(13) as another, self.refused(Status.IS_OPEN):
-            another.go_on(unit)
-        self.assertEqual(unit.state().pending, 0)
-        unit.close()
-
     def test_the_calls_of_a_unit(self) -> None:
         unit = SectorUnit(MemoryMedium.formatted(2))
-        self.closed(unit.wanted, lambda: unit.provide(0, bytes(SECTOR)))
+        self.closed(lambda: unit.provide(0, bytes(SECTOR)))
         with unit:
-            with self.refused(Status.NONE_WANTED):
-                unit.wanted()
-            for sector, size in ((13, SECTOR), (0, SECTOR - 1), (0, 0), (-1, SECTOR)):
+            for sector, size in ((13, SECTOR), (0, SECTOR - 1), (0, 0), (-1, SECTOR), (1 << 64, SECTOR)):
                 with self.refused(Status.OUT_OF_RANGE):
                     unit.provide(sector, bytes(size))
             unit.provide(12, bytes(SECTOR))
+            with self.refused(Status.IS_OPEN):
+                unit.open()
 
     def test_a_file(self) -> None:
         """The file is settled before its sectors are read, and then holds what a copy would leave."""

@@ -5,15 +5,15 @@
  *
  *     slots N                      the medium gets so many slots, and is formatted
  *     kind N                       how a unit is opened from now on: 0 over a copy, 1 by sectors
- *     open COLD, flush, close      as etcs_unit.h says; open and flush hand in what is wanted, carry out all requests, and release
+ *     open COLD, flush, close      as etcs_unit.h says; open and flush carry out all requests, and release
  *     cut REQUESTS BYTES           prepares, and carries out so many requests and so many bytes of the next one; then power is lost
  *     dies COLD REQUESTS BYTES     the same of a power-up
- *     stops COLD SECTORS           an opening to which so many sectors are handed in; then power is lost
+ *     stops COLD SECTORS           closes, and begins a power-up to which so many sectors are handed in; then power is lost
  *     telegram HEX, odometer CM SPEED, clock MS, action N, identity HEX, number N, train LENGTH MAXIMUM DECELERATION REACTION CATEGORY
- *     prepare, request INDEX ROOM, done COUNT, fail, release ROOM, state, version ROOM, build ROOM, format SLOTS INDEX ROOM
- *     wants, hands SECTOR SIZE FROM  which sector the unit wants; hands in bytes of the medium from there on
- *     begin SECTORS COLD, begins COLD, wanted, provide SECTOR SIZE FROM, give_up  the calls of an opening; begins has the medium's sectors
- *     goes MOST                    goes on, and hands in what is wanted, at most so many sectors
+ *     prepare, request ROOM, done, fail, release ROOM, state, version ROOM, build ROOM, format SLOTS INDEX ROOM
+ *     begin SECTORS COLD, begins COLD  begins a power-up; begins has the medium's sectors
+ *     provide SECTOR SIZE FROM     hands in bytes of the medium from there on
+ *     goes MOST                    hands in what is to be read, at most so many sectors
  *     image                        a digest of the medium
  *     whole, size BYTES            reads all of the medium, or so many bytes of it, from now on
  *     flip OFFSET BITS             alters a byte of the medium
@@ -37,7 +37,6 @@ static void add_number(uint64_t number, size_t size);
 static uint8_t media[2][SECTORS * ETCS_UNIT_SECTOR];
 static size_t lengths[2];
 static etcs_unit units[2];
-static etcs_opening openings[2];
 static unsigned by_sectors;
 static etcs_journal journal;
 static uint64_t reads_at_most;
@@ -100,11 +99,7 @@ static void carries_out(const etcs_unit_request_info *request, const uint8_t *by
             media[on][request->sector * ETCS_UNIT_SECTOR + i] = bytes[i];
 }
 
-/* ---- what is wanted of the medium */
-
-static etcs_opening *opening(void) {
-    return &openings[which];
-}
+/* ---- what is to be read of the medium */
 
 /* A buffer of so many bytes, with what the medium has from a place on. */
 static const uint8_t *bytes_from(uint64_t from, size_t size) {
@@ -118,64 +113,61 @@ static size_t limited(uint64_t wanted) {
     return wanted < 2 * ETCS_UNIT_SECTOR ? (size_t)wanted : 2 * ETCS_UNIT_SECTOR;
 }
 
-/* Goes on with an opening, and hands in what it wants, at most so many sectors. */
-static uint32_t goes_on(etcs_opening *with, uint64_t most) {
-    uint64_t sector;
+/* Goes on with the digest of a request, and of the bytes that it writes. */
+static void add_request(const etcs_unit_request_info *request, const uint8_t *bytes) {
+    add_etcs_unit_request_info(request);
+    if (request->kind == ETCS_REQUEST_WRITE)
+        add(bytes, (size_t)request->sectors * ETCS_UNIT_SECTOR);
+}
+
+/* Hands in the sector that is to be read. */
+static uint32_t hands_in(const etcs_unit_request_info *request) {
+    return etcs_unit_provide(unit(), request->sector, bytes_from(request->sector * ETCS_UNIT_SECTOR, ETCS_UNIT_SECTOR), ETCS_UNIT_SECTOR);
+}
+
+/* Hands in what is to be read, at most so many sectors; FAILED where there are more. */
+static uint32_t reads(uint64_t most) {
+    static uint8_t bytes[ETCS_UNIT_REQUEST_BYTES];
+    etcs_unit_request_info request;
     uint32_t status;
-    while ((status = etcs_opening_go_on(with, unit())) == ETCS_UNIT_SECTOR_WANTED && most-- > 0) {
-        status = etcs_opening_wanted(with, &sector);
-        if (status == ETCS_UNIT_OK)
-            status = etcs_opening_provide(with, sector, bytes_from(sector * ETCS_UNIT_SECTOR, ETCS_UNIT_SECTOR), ETCS_UNIT_SECTOR);
+    while ((status = etcs_unit_request(unit(), &request, bytes, sizeof bytes)) == ETCS_UNIT_OK && request.kind == ETCS_REQUEST_READ) {
+        add_request(&request, bytes);
+        if (most-- == 0)
+            return ETCS_UNIT_FAILED;
+        status = hands_in(&request);
         if (status != ETCS_UNIT_OK)
             return status;
     }
-    return status;
+    return status == ETCS_UNIT_NO_SUCH_REQUEST ? (uint32_t)ETCS_UNIT_OK : status;
 }
 
 static uint32_t open_by_sectors(uint32_t cold, uint64_t most) {
-    etcs_opening begun = {0};
-    uint32_t status = etcs_opening_begin(&begun, lengths[on] / ETCS_UNIT_SECTOR, cold);
-    if (status == ETCS_UNIT_OK)
-        status = goes_on(&begun, most);
-    (void)etcs_opening_close(&begun);
-    return status;
+    const uint32_t status = etcs_unit_begin(unit(), lengths[on] / ETCS_UNIT_SECTOR, cold);
+    return status == ETCS_UNIT_OK ? reads(most) : status;
 }
 
 static uint32_t opens(uint32_t cold) {
     return by_sectors != 0 ? open_by_sectors(cold, UINT64_MAX) : etcs_unit_open(unit(), media[on], lengths[on], cold);
 }
 
-/* Prepares, and hands in what is wanted. */
-static uint32_t prepares(void) {
-    uint64_t sector;
-    uint32_t status;
-    while ((status = etcs_unit_prepare(unit())) == ETCS_UNIT_SECTOR_WANTED) {
-        status = etcs_unit_wanted(unit(), &sector);
-        if (status == ETCS_UNIT_OK)
-            status = etcs_unit_provide(unit(), sector, bytes_from(sector * ETCS_UNIT_SECTOR, ETCS_UNIT_SECTOR), ETCS_UNIT_SECTOR);
-        if (status != ETCS_UNIT_OK)
-            return status;
-    }
-    return status;
-}
-
-/* Carries out all requests, or so many and then some bytes of the next one. */
+/* Carries out all requests, or so many and then some bytes of the next one; reads don't count. */
 static uint32_t carry_out(uint64_t most, uint64_t rest) {
     static uint8_t bytes[ETCS_UNIT_REQUEST_BYTES];
     etcs_unit_request_info request;
-    uint32_t count = 0, status;
-    while ((status = etcs_unit_request(unit(), count, &request, bytes, sizeof bytes)) == ETCS_UNIT_OK) {
+    uint32_t status;
+    while ((status = etcs_unit_request(unit(), &request, bytes, sizeof bytes)) == ETCS_UNIT_OK) {
         const size_t length = (size_t)request.sectors * ETCS_UNIT_SECTOR;
-        add_etcs_unit_request_info(&request);
-        add(bytes, length);
-        if (count == most) {
+        add_request(&request, bytes);
+        if (request.kind != ETCS_REQUEST_READ && most-- == 0) {
             carries_out(&request, bytes, rest < length ? (size_t)rest : length);
             return ETCS_UNIT_FAILED;
         }
         carries_out(&request, bytes, length);
-        count++;
+        status = request.kind == ETCS_REQUEST_READ ? hands_in(&request) : etcs_unit_done(unit());
+        if (status != ETCS_UNIT_OK)
+            return status;
     }
-    return status == ETCS_UNIT_NO_SUCH_REQUEST ? etcs_unit_done(unit(), count) : status;
+    return status == ETCS_UNIT_NO_SUCH_REQUEST ? (uint32_t)ETCS_UNIT_OK : status;
 }
 
 static uint32_t release(uint64_t room) {
@@ -215,7 +207,7 @@ static int about_units(uint32_t *status) {
     etcs_unit_state_info state;
     etcs_unit_why_info why;
     etcs_unit_driver_info driver;
-    uint32_t first, second;
+    uint32_t room;
     if (word("open")) {
         *status = opens((uint32_t)number());
         if (*status == ETCS_UNIT_OK)
@@ -223,14 +215,14 @@ static int about_units(uint32_t *status) {
         if (*status == ETCS_UNIT_OK)
             *status = release(ETCS_UNIT_OUTPUTS);
     } else if (word("flush")) {
-        *status = prepares();
+        *status = etcs_unit_prepare(unit());
         if (*status == ETCS_UNIT_OK)
             *status = carry_out(UINT64_MAX, 0);
         if (*status == ETCS_UNIT_OK)
             *status = release(ETCS_UNIT_OUTPUTS);
     } else if (word("cut")) {
         const uint64_t most = number();
-        *status = prepares();
+        *status = etcs_unit_prepare(unit());
         if (*status == ETCS_UNIT_OK)
             *status = carry_out(most, number());
         (void)etcs_unit_close(unit());
@@ -245,15 +237,12 @@ static int about_units(uint32_t *status) {
     } else if (word("prepare")) {
         *status = etcs_unit_prepare(unit());
     } else if (word("request")) {
-        first = (uint32_t)number();
-        second = (uint32_t)number();
-        *status = etcs_unit_request(unit(), first, &request, bytes, second < sizeof bytes ? second : sizeof bytes);
-        if (*status == ETCS_UNIT_OK) {
-            add_etcs_unit_request_info(&request);
-            add(bytes, (size_t)request.sectors * ETCS_UNIT_SECTOR);
-        }
+        room = (uint32_t)number();
+        *status = etcs_unit_request(unit(), &request, bytes, room < sizeof bytes ? room : sizeof bytes);
+        if (*status == ETCS_UNIT_OK)
+            add_request(&request, bytes);
     } else if (word("done")) {
-        *status = etcs_unit_done(unit(), (uint32_t)number());
+        *status = etcs_unit_done(unit());
     } else if (word("fail")) {
         *status = etcs_unit_fail(unit());
     } else if (word("release")) {
@@ -284,30 +273,20 @@ static int about_sectors(uint32_t *status) {
         *status = 0;
     } else if (word("stops")) {
         const uint32_t cold = (uint32_t)number();
+        (void)etcs_unit_close(unit());
         *status = open_by_sectors(cold, number());
+        (void)etcs_unit_close(unit());
     } else if (word("begin")) {
         sector = number();
-        *status = etcs_opening_begin(opening(), sector, (uint32_t)number());
+        *status = etcs_unit_begin(unit(), sector, (uint32_t)number());
     } else if (word("begins")) {
-        *status = etcs_opening_begin(opening(), lengths[on] / ETCS_UNIT_SECTOR, (uint32_t)number());
+        *status = etcs_unit_begin(unit(), lengths[on] / ETCS_UNIT_SECTOR, (uint32_t)number());
     } else if (word("goes")) {
-        *status = goes_on(opening(), number());
-    } else if (word("wanted")) {
-        *status = etcs_opening_wanted(opening(), &sector);
-        add_number(sector, sizeof sector);
-    } else if (word("wants")) {
-        *status = etcs_unit_wanted(unit(), &sector);
-        add_number(sector, sizeof sector);
+        *status = reads(number());
     } else if (word("provide")) {
         sector = number();
         size = limited(number());
-        *status = etcs_opening_provide(opening(), sector, bytes_from(number(), size), size);
-    } else if (word("hands")) {
-        sector = number();
-        size = limited(number());
         *status = etcs_unit_provide(unit(), sector, bytes_from(number(), size), size);
-    } else if (word("give_up")) {
-        *status = etcs_opening_close(opening());
     } else {
         return 0;
     }
@@ -475,8 +454,6 @@ static uint32_t nulls(void) {
     static etcs_replay replay;
     static etcs_block block;
     etcs_unit none = {0};
-    etcs_opening no_opening = {0};
-    uint64_t sector = 0;
     etcs_unit_request_info request;
     etcs_unit_state_info state;
     etcs_unit_output outputs[ETCS_UNIT_OUTPUTS];
@@ -495,14 +472,11 @@ static uint32_t nulls(void) {
         etcs_unit_identity(NULL, bytes, 1), etcs_unit_identity(&none, NULL, 1),
         etcs_unit_running_number(NULL, 1), etcs_unit_train_data(NULL, &(etcs_train_data){1, 1, 1, 1, 1}), etcs_unit_train_data(&none, NULL),
         etcs_unit_prepare(NULL),
-        etcs_unit_request(NULL, 0, &request, bytes, 512), etcs_unit_request(&none, 0, NULL, bytes, 512), etcs_unit_request(&none, 0, &request, NULL, 512),
-        etcs_unit_done(NULL, 0), etcs_unit_fail(NULL),
+        etcs_unit_request(NULL, &request, bytes, 512), etcs_unit_request(&none, NULL, bytes, 512), etcs_unit_request(&none, &request, NULL, 512),
+        etcs_unit_done(NULL), etcs_unit_fail(NULL),
         etcs_unit_release(NULL, outputs, 8, &length), etcs_unit_release(&none, NULL, 8, &length), etcs_unit_release(&none, outputs, 8, NULL),
         etcs_unit_state(NULL, &state), etcs_unit_state(&none, NULL), etcs_unit_close(NULL),
-        etcs_unit_wanted(NULL, &sector), etcs_unit_wanted(&none, NULL), etcs_unit_provide(NULL, 0, bytes, 512), etcs_unit_provide(&none, 0, NULL, 512),
-        etcs_opening_begin(NULL, 13, 0), etcs_opening_go_on(NULL, &none), etcs_opening_go_on(&no_opening, NULL), etcs_opening_wanted(NULL, &sector),
-        etcs_opening_wanted(&no_opening, NULL), etcs_opening_provide(NULL, 0, bytes, 512), etcs_opening_provide(&no_opening, 0, NULL, 512),
-        etcs_opening_close(NULL),
+        etcs_unit_begin(NULL, 13, 0), etcs_unit_provide(NULL, 0, bytes, 512), etcs_unit_provide(&none, 0, NULL, 512),
         etcs_unit_format_request(2, 0, NULL, bytes, 512), etcs_unit_format_request(2, 0, &request, NULL, 512),
         etcs_image_facts(NULL, 512, &facts), etcs_image_facts(media[on], 512, NULL),
         etcs_image_slot(NULL, 512, 0, 0, &slot), etcs_image_slot(media[on], 512, 0, 0, NULL),

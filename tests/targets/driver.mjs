@@ -5,7 +5,7 @@ import fs from 'node:fs';
 
 const { instance } = await WebAssembly.instantiate(fs.readFileSync(process.argv[2]), {});
 const x = instance.exports;
-const SECTOR = 512, SECTORS = 1 + 6 * 64, MOST = SECTOR * SECTORS, OUTPUTS = 8, REQUEST = 8192, OK = 0, FAILED = 21, SECTOR_WANTED = 24, NO_SUCH_REQUEST = 249;
+const SECTOR = 512, SECTORS = 1 + 6 * 64, MOST = SECTOR * SECTORS, OUTPUTS = 8, REQUEST = 8192, OK = 0, FAILED = 21, WRITE = 1n, READ = 3n, NO_SUCH_REQUEST = 249;
 const SIZE = { request: 24, output: 16, state: 80, facts: 32, slot: 32, start: 16, block: 208, record: 160, journal: 24, replay: 720, why: 160, train: 20, explained: 144, driver: 208, adapted: 16, dropped: 16, unused: 24 };
 
 const bytesAt = (at, length) => new Uint8Array(x.memory.buffer, Number(at), Number(length));
@@ -16,10 +16,9 @@ const take = size => {
     return at;
 };
 
-const media = [take(MOST), take(MOST)], lengths = [0, 0], units = [take(16), take(16)];
+const media = [take(MOST), take(MOST)], lengths = [0, 0], units = [take(32), take(32)];
 const journal = take(SIZE.journal), bytes = take(REQUEST), request = take(SIZE.request), outputs = take(OUTPUTS * SIZE.output), count = take(8);
-const state = take(SIZE.state), train = take(SIZE.train), result = take(SIZE.replay), none = take(16);
-const openings = [take(16), take(16)], begun = take(16), sector = take(8), some = take(2 * SECTOR);
+const state = take(SIZE.state), train = take(SIZE.train), result = take(SIZE.replay), none = take(32), some = take(2 * SECTOR);
 let on = 0, which = 0, bySectors = false, readsAtMost = MOST, digest = 0n, words = [], answers = [], last = [0n, 0n];
 
 const U64 = (1n << 64n) - 1n;
@@ -37,61 +36,49 @@ const hex = most => {
 
 const unit = () => units[which];
 const read64 = (at, place) => new DataView(x.memory.buffer).getBigUint64(Number(at) + 8 * place, true);
-const opening = () => openings[which];
 const bytesFrom = (from, size) => {
     const medium = bytesAt(media[on], MOST), room = bytesAt(some, 2 * SECTOR), place = Number(from % BigInt(MOST));
     for (let i = 0; i < Number(size); i++) room[i] = medium[(place + i) % MOST];
     return some;
 };
-const provides = (call, to, number, size, from) => x[call](to, number, bytesFrom(from, size), size);
-const handsIn = (kind, to) => {
-    const status = x[`etcs_${kind}_wanted`](to, sector), wanted = read64(sector, 0);
-    return status === OK ? provides(`etcs_${kind}_provide`, to, wanted, BigInt(SECTOR), wanted * BigInt(SECTOR)) : status;
+const handsIn = () => {
+    const sector = read64(request, 0);
+    return x.etcs_unit_provide(unit(), sector, bytesFrom(sector * BigInt(SECTOR), SECTOR), BigInt(SECTOR));
 };
-const goesOn = (by, most) => {
+const addRequest = () => {
+    add(request, SIZE.request);
+    if (read64(request, 2) === WRITE) add(bytes, Number(read64(request, 1)) * SECTOR);
+};
+const next = () => x.etcs_unit_request(unit(), request, bytes, BigInt(REQUEST));
+const reads = most => {
     let status;
-    while ((status = x.etcs_opening_go_on(by, unit())) === SECTOR_WANTED && most-- > 0n)
-        if ((status = handsIn('opening', by)) !== OK) return status;
-    return status;
+    while ((status = next()) === OK && read64(request, 2) === READ) {
+        addRequest();
+        if (most-- === 0n) return FAILED;
+        if ((status = handsIn()) !== OK) return status;
+    }
+    return status === NO_SUCH_REQUEST ? OK : status;
 };
-const openBySectors = (cold, most) => {
-    bytesAt(begun, 16).fill(0);
-    const status = then(x.etcs_opening_begin(begun, BigInt(lengths[on] / SECTOR), cold), () => goesOn(begun, most));
-    x.etcs_opening_close(begun);
-    return status;
-};
+const openBySectors = (cold, most) => then(x.etcs_unit_begin(unit(), BigInt(lengths[on] / SECTOR), cold), () => reads(most));
 const opens = cold => bySectors ? openBySectors(cold, U64) : x.etcs_unit_open(unit(), media[on], BigInt(lengths[on]), cold);
-const prepares = () => {
-    let status;
-    while ((status = x.etcs_unit_prepare(unit())) === SECTOR_WANTED)
-        if ((status = handsIn('unit', unit())) !== OK) return status;
-    return status;
-};
-const digestedSector = (call, of) => {
-    bytesAt(sector, 8).fill(0);
-    const status = x[call](of, sector);
-    add(sector, 8);
-    return status;
-};
 const carriesOut = (at, length) => {
-    if (read64(request, 2) !== 1n) return;
+    if (read64(request, 2) !== WRITE) return;
     const from = Number(read64(request, 0)) * SECTOR, room = Math.min(length, MOST - from);
     if (room > 0) bytesAt(media[on], MOST).set(bytesAt(at, room), from);
 };
 const carryOut = (most, rest) => {
-    let done = 0, status;
-    while ((status = x.etcs_unit_request(unit(), done, request, bytes, BigInt(REQUEST))) === OK) {
-        const length = Number(read64(request, 1)) * SECTOR;
-        add(request, SIZE.request);
-        add(bytes, length);
-        if (BigInt(done) === most) {
+    let status;
+    while ((status = next()) === OK) {
+        const length = Number(read64(request, 1)) * SECTOR, isRead = read64(request, 2) === READ;
+        addRequest();
+        if (!isRead && most-- === 0n) {
             carriesOut(bytes, rest < BigInt(length) ? Number(rest) : length);
             return FAILED;
         }
         carriesOut(bytes, length);
-        done++;
+        if ((status = isRead ? handsIn() : x.etcs_unit_done(unit())) !== OK) return status;
     }
-    return status === NO_SUCH_REQUEST ? x.etcs_unit_done(unit(), done) : status;
+    return status === NO_SUCH_REQUEST ? OK : status;
 };
 const release = room => {
     const status = x.etcs_unit_release(unit(), outputs, limited(room, OUTPUTS), count);
@@ -113,7 +100,7 @@ const digested = (status, at, length) => {
     return status;
 };
 const digestedRequest = status => {
-    if (status === OK) add(request, SIZE.request), add(bytes, Number(read64(request, 1)) * SECTOR);
+    if (status === OK) addRequest();
     return status;
 };
 const whole = () => carryOut(U64, 0n), all = () => release(BigInt(OUTPUTS));
@@ -136,12 +123,10 @@ const nulls = () => {
         x.etcs_unit_open(z, m, 512n, 0), x.etcs_unit_open(n, z, 512n, 0), x.etcs_unit_telegram(z, b, 1n), x.etcs_unit_telegram(n, z, 1n),
         x.etcs_unit_odometer(z, 0n, 0), x.etcs_unit_clock(z, 0n), x.etcs_unit_action(z, 1), x.etcs_unit_identity(z, b, 1n), x.etcs_unit_identity(n, z, 1n),
         x.etcs_unit_running_number(z, 1), x.etcs_unit_train_data(z, train), x.etcs_unit_train_data(n, z), x.etcs_unit_prepare(z),
-        x.etcs_unit_request(z, 0, request, b, 512n), x.etcs_unit_request(n, 0, z, b, 512n), x.etcs_unit_request(n, 0, request, z, 512n),
-        x.etcs_unit_done(z, 0), x.etcs_unit_fail(z), x.etcs_unit_release(z, outputs, 8n, count), x.etcs_unit_release(n, z, 8n, count),
-        x.etcs_unit_release(n, outputs, 8n, z), x.etcs_unit_wanted(z, sector), x.etcs_unit_wanted(n, z), x.etcs_unit_provide(z, 0n, b, 512n),
-        x.etcs_unit_provide(n, 0n, z, 512n), x.etcs_opening_begin(z, 13n, 0), x.etcs_opening_go_on(z, n), x.etcs_opening_go_on(n, z),
-        x.etcs_opening_wanted(z, sector), x.etcs_opening_wanted(n, z), x.etcs_opening_provide(z, 0n, b, 512n), x.etcs_opening_provide(n, 0n, z, 512n),
-        x.etcs_opening_close(z), x.etcs_unit_state(z, state), x.etcs_unit_state(n, z), x.etcs_unit_close(z),
+        x.etcs_unit_request(z, request, b, 512n), x.etcs_unit_request(n, z, b, 512n), x.etcs_unit_request(n, request, z, 512n),
+        x.etcs_unit_done(z), x.etcs_unit_fail(z), x.etcs_unit_release(z, outputs, 8n, count), x.etcs_unit_release(n, z, 8n, count),
+        x.etcs_unit_release(n, outputs, 8n, z), x.etcs_unit_begin(z, 13n, 0), x.etcs_unit_provide(z, 0n, b, 512n),
+        x.etcs_unit_provide(n, 0n, z, 512n), x.etcs_unit_state(z, state), x.etcs_unit_state(n, z), x.etcs_unit_close(z),
         x.etcs_unit_format_request(2, 0, z, b, 512n), x.etcs_unit_format_request(2, 0, request, z, 512n),
         x.etcs_image_facts(z, 512n, result), x.etcs_image_facts(m, 512n, z), x.etcs_image_slot(z, 512n, 0n, 0n, result), x.etcs_image_slot(m, 512n, 0n, 0n, z),
         x.etcs_image_slot_start(z, 1024n, 1n, 0n, some), x.etcs_image_slot_start(m, 1024n, 1n, 0n, z),
@@ -157,9 +142,9 @@ const image = (call, length, ...numbers) => digested(x[call](media[on], size(), 
 const CALLS = {
     kind: () => { bySectors = number() % 2n === 1n; return 0; },
     open: () => then(opens(small()), whole, all),
-    flush: () => then(prepares(), whole, all),
+    flush: () => then(x.etcs_unit_prepare(unit()), whole, all),
     cut: () => {
-        const most = number(), status = then(prepares(), () => carryOut(most, number()));
+        const most = number(), status = then(x.etcs_unit_prepare(unit()), () => carryOut(most, number()));
         x.etcs_unit_close(unit());
         return status;
     },
@@ -168,19 +153,20 @@ const CALLS = {
         x.etcs_unit_close(unit());
         return status;
     },
-    stops: () => { const cold = small(); return openBySectors(cold, number()); },
-    wants: () => digestedSector('etcs_unit_wanted', unit()),
-    hands: () => { const at = number(), size = limited(number(), 2 * SECTOR); return provides('etcs_unit_provide', unit(), at, size, number()); },
-    begin: () => { const sectors = number(); return x.etcs_opening_begin(opening(), sectors, small()); },
-    begins: () => x.etcs_opening_begin(opening(), BigInt(lengths[on] / SECTOR), small()),
-    goes: () => goesOn(opening(), number()),
-    wanted: () => digestedSector('etcs_opening_wanted', opening()),
-    provide: () => { const at = number(), size = limited(number(), 2 * SECTOR); return provides('etcs_opening_provide', opening(), at, size, number()); },
-    give_up: () => x.etcs_opening_close(opening()),
+    stops: () => {
+        x.etcs_unit_close(unit());
+        const cold = small(), status = openBySectors(cold, number());
+        x.etcs_unit_close(unit());
+        return status;
+    },
+    begin: () => { const sectors = number(); return x.etcs_unit_begin(unit(), sectors, small()); },
+    begins: () => x.etcs_unit_begin(unit(), BigInt(lengths[on] / SECTOR), small()),
+    goes: () => reads(number()),
+    provide: () => { const at = number(), size = limited(number(), 2 * SECTOR); return x.etcs_unit_provide(unit(), at, bytesFrom(number(), size), size); },
     close: () => x.etcs_unit_close(unit()),
     prepare: () => x.etcs_unit_prepare(unit()),
-    request: () => { const index = small(), room = BigInt(small()); return digestedRequest(x.etcs_unit_request(unit(), index, request, bytes, limited(room, REQUEST))); },
-    done: () => x.etcs_unit_done(unit(), small()),
+    request: () => { const room = BigInt(small()); return digestedRequest(x.etcs_unit_request(unit(), request, bytes, limited(room, REQUEST))); },
+    done: () => x.etcs_unit_done(unit()),
     fail: () => x.etcs_unit_fail(unit()),
     release: () => release(number()),
     state: () => digested(x.etcs_unit_state(unit(), state), state, SIZE.state),

@@ -23,7 +23,7 @@ from program import inputs_of  # noqa: E402
 from random_inputs import headed, mutated  # noqa: E402
 
 PENDING, MOST_SLOTS = 8, 64
-CUT_KINDS, LEAST_STATUSES, NULL_CALLS, WANTED = 21, 24, 62, 24
+CUT_KINDS, LEAST_STATUSES, NULL_CALLS = 21, 22, 53
 EDGES = (0, 1, 2, 7, 8, 9, 104, 105, 255, 256, 511, 512, 8_191, 8_192, 10_000, 10_001, 600_000, 600_001, 99_999_999, 100_000_000, (1 << 31) - 1, 1 << 31,
          (1 << 32) - 1, 1 << 32, (1 << 40) - 1, 1 << 40, (1 << 63) - 1, 1 << 63, (1 << 64) - 1)
 
@@ -38,7 +38,7 @@ def wild(r):
 
 def life(r):
     """A life on the medium, of a unit over a copy or by sectors: whole, or cut off in one of its flushes. Before some lives power is lost while
-    sectors are still wanted, or within the power-up."""
+    sectors are still to be read, or within the power-up."""
     scenario = scenario_of(r)
     cold = scenario.get("cold", 0)
     lines, pending = [f"kind {r.randrange(2)}"], 0
@@ -71,7 +71,7 @@ def call(r):
     """A call with numbers of any kind, also where the unit isn't open or its requests are owed."""
     kind = r.randrange(44)
     if kind < 6:
-        return r.choice(("prepare", "flush", f"open {r.randrange(4)}", f"done {r.randrange(6)}", f"release {r.randrange(10)}", "close"))
+        return r.choice(("prepare", "flush", f"open {r.randrange(4)}", "done", f"release {r.randrange(10)}", "close"))
     if kind < 12:
         return r.choice((f"odometer {r.randrange(-300, 3_000)} {r.randrange(200_000)}", f"clock {r.randrange(1 << 20)}", f"action {r.randrange(17)}",
                          f"telegram {(headed if r.randrange(2) else mutated)(r)[:r.choice((104, 104, 105, 1))].hex()}", "train 20000 160000 70 0 15"))
@@ -80,15 +80,14 @@ def call(r):
                          f"identity {r.randbytes(r.randrange(18)).hex()}", f"number {wild(r)}", f"train {' '.join(str(wild(r)) for _ in range(5))}",
                          f"telegram {r.randbytes(r.choice((0, 1, 104, 105, 250))).hex()}"))
     if kind < 24:
-        return r.choice((f"request {r.randrange(5)} {r.choice((0, 511, 512, 8_192))}", f"request {wild(r)} {wild(r)}", f"done {wild(r)}", f"release {wild(r)}",
+        return r.choice((f"request {r.choice((0, 511, 512, 8_192))}", f"request {wild(r)}", "done", f"release {wild(r)}",
                          "state", "explain", "keys", f"version {wild(r)}", f"build {wild(r)}", f"format {wild(r)} {wild(r)} {wild(r)}", f"unit {r.randrange(2)}", f"medium {r.randrange(2)}"))
     if kind < 28:
-        return r.choice((f"begins {r.randrange(3)}", f"begins {r.randrange(3)}", "goes 0", f"goes {r.randrange(40)}", f"goes {1 << 10}", f"goes {1 << 10}", "wanted",
-                         f"kind {r.randrange(2)}", f"open {r.randrange(3)}", "wants"))
+        return r.choice((f"begins {r.randrange(3)}", f"begins {r.randrange(3)}", "goes 0", f"goes {r.randrange(40)}", f"goes {1 << 10}", f"goes {1 << 10}", "request 8192",
+                         f"kind {r.randrange(2)}", f"open {r.randrange(3)}", "done"))
     if kind < 32:
         return r.choice((f"begin {r.choice((0, 1, 12, 13, 25, wild(r)))} {r.choice((0, 1, 2, 3, wild(r)))}", f"provide {r.randrange(30)} 512 {512 * r.randrange(30)}",
-                         f"provide {wild(r)} {r.choice((0, 511, 512, 513, wild(r)))} {wild(r)}", f"hands {r.randrange(30)} 512 {512 * r.randrange(30)}",
-                         f"hands {wild(r)} {r.choice((0, 511, 512, 513, wild(r)))} {wild(r)}", "give_up", f"stops {r.randrange(4)} {r.randrange(40)}",
+                         f"provide {wild(r)} {r.choice((0, 511, 512, 513, wild(r)))} {wild(r)}", "fail", f"stops {r.randrange(4)} {r.randrange(40)}",
                          f"dies {r.randrange(3)} {r.randrange(9)} {r.randrange(4_097)}"))
     if kind < 42:
         return r.choice(("facts", "journal", "next", "next", "replay", f"cursor {wild(r)} {wild(r)} {wild(r)}", f"slot {wild(r)} {wild(r)}", f"start {wild(r)} {wild(r)}", f"block {wild(r)}",
@@ -116,7 +115,7 @@ def script(lives, calls, telegrams, seed=2026):
         lines += life(r)
         if r.randrange(4) == 0:
             lines += reading(r)
-    lines += ["slots 4", *(call(r) for _ in range(calls)), "unit 0", "close", "give_up", "unit 1", "close", "give_up", "null"]
+    lines += ["slots 4", *(call(r) for _ in range(calls)), "unit 0", "close", "unit 1", "close", "null"]
     for _ in range(telegrams):
         data = r.choice((headed, mutated, installed))(r)[:256].hex()
         lines += [f"decode {data}", f"adapt {data}", f"dropped {r.randrange(8)} {data}", f"unused {r.choice((0, 1, 2, 3, 4, 5, 6, 7, 8, 9))} {r.choice((0, 1, 2, 2, 3))} {r.randrange(4)} {data}"]
@@ -126,7 +125,7 @@ def script(lives, calls, telegrams, seed=2026):
 def members():
     """The functions of C, in the order of the headers. An array is added member by member, a struct within a struct by its own function."""
     for name, kind in vars(_header).items():
-        if not (isinstance(kind, type) and issubclass(kind, ctypes.Structure) and kind is not ctypes.Structure) or name in ("etcs_unit", "etcs_opening"):
+        if not (isinstance(kind, type) and issubclass(kind, ctypes.Structure) and kind is not ctypes.Structure) or name == "etcs_unit":
             continue
         yield f"static inline void add_{name}(const {name} *of) {{"
         for field, of, *_ in kind._fields_:
@@ -159,7 +158,7 @@ def compare(asked, wanted, *found):
     words = [line.split()[0] for line in lines]
     causes = sum(word == "cause" and int(status) == 0 for word, (_, status, _) in zip(words, answers))
     cuts = sum(word in ("cut", "dies") and int(status) == CUT_KINDS for word, (_, status, _) in zip(words, answers))
-    stopped = sum(word == "stops" and int(status) == WANTED for word, (_, status, _) in zip(words, answers))
+    stopped = sum(word == "stops" and int(status) == CUT_KINDS for word, (_, status, _) in zip(words, answers))
     outputs, lives = sum(line.startswith("event ") for line in expected), words.count("open")
     by_sectors = Counter(kind for kind, word in with_kinds(lines) if word == "open")
     decoded = [int(status) for word, (_, status, _) in zip(words, answers) if word == "decode"]
@@ -167,7 +166,7 @@ def compare(asked, wanted, *found):
     compared.unless("no such word" not in expected, "a word that the driver doesn't have")
     compared.unless(outputs >= 4 * lives // 3 and cuts >= words.count("cut") // 4 > 0, f"{outputs} outputs of {lives} lives, {cuts} of them cut off")
     compared.unless(min(by_sectors["0"], by_sectors["1"]) >= lives // 4 and stopped >= words.count("stops") // 4 > 0,
-                    f"openings by kind {dict(by_sectors)}, {stopped} cut off while a sector was wanted")
+                    f"openings by kind {dict(by_sectors)}, {stopped} cut off while a sector was to be read")
     compared.unless(causes * 10 >= words.count("cause") > 0, f"{causes} of {words.count('cause')} causes are explained")
     compared.unless(len(statuses) >= LEAST_STATUSES, f"{len(statuses)} kinds of answers")
     compared.unless(decoded.count(0) * 10 >= len(decoded) > 0, f"{decoded.count(0)} of {len(decoded)} telegrams can be read")
@@ -176,7 +175,7 @@ def compare(asked, wanted, *found):
         compared.unless(len(other) == len(expected), f"{path}: {len(other)} lines, wanted {len(expected)}")
         compared.same(path, [pair for pair in zip(other, expected) if pair[0] != pair[1]][:5], [])
     return compared.end(f"{len(found)} machines compared with the first: {len(lines)} calls with {outputs} outputs, {lives} openings, {by_sectors['1']} of them by sectors, "
-                        f"{cuts} losses of power and {stopped} more while a sector was wanted, "
+                        f"{cuts} losses of power and {stopped} more while a sector was to be read, "
                         f"{causes} causes, {len(statuses)} kinds of answers, {len(decoded)} telegrams")
 
 

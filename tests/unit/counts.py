@@ -32,10 +32,10 @@ MOST_TWICE = 140_000
 # A reading with twice the restrictions, or twice the gradients, takes at most twice as much, and a little for the call itself.
 MOST_DOUBLED = 2.05
 # Bytes of stack: of some calls, and of any other one.
-POWER_UPS = ("etcs_unit_open_", "etcs_opening_go_on_")
+POWER_UPS = ("etcs_unit_open_", "etcs_unit_begin_", "etcs_unit_provide_")
 MOST_STACK_OF = dict.fromkeys(POWER_UPS, 16_384) | {"etcs_image_why_": 176_128, "etcs_image_replay_": 67_584, "etcs_telegram_unused_": 36_864,
                                                  **dict.fromkeys(("etcs_image_block_", "etcs_image_record_", "etcs_image_slot_", "etcs_journal_next_"), 24_576)}
-MOST_STACK, LEAST_CALLS = 11_776, 36
+MOST_STACK, LEAST_CALLS = 11_776, 31
 
 
 def rows():
@@ -104,7 +104,7 @@ def main(program, *words):
     for fault in faults:
         print(fault)
     print(f"instructions of calls: {len(numbers)} rows compared with kept ones, {len(bounds)} bounds; the stack of {len(taken)} calls, "
-          f"{' and '.join(str(taken.get(name)) for name in POWER_UPS)} bytes of an opening")
+          f"{', '.join(str(taken.get(name)) for name in POWER_UPS)} bytes of a power-up")
     return 1 if faults else 0
 
 

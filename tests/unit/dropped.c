@@ -5,9 +5,9 @@
 #include "etcs_memory.h"
 #include "etcs_odometer.h"
 
-void drops(etcs_unit *unit, etcs_opening *opening, etcs_file *file, etcs_unit_output *outputs, uint8_t *bytes, uint64_t *number, uint32_t *count);
+void drops(etcs_unit *unit, etcs_file *file, etcs_unit_output *outputs, uint8_t *bytes, uint64_t *number, uint32_t *count);
 
-void drops(etcs_unit *unit, etcs_opening *opening, etcs_file *file, etcs_unit_output *outputs, uint8_t *bytes, uint64_t *number, uint32_t *count) {
+void drops(etcs_unit *unit, etcs_file *file, etcs_unit_output *outputs, uint8_t *bytes, uint64_t *number, uint32_t *count) {
     static etcs_unit_request_info request;
     static etcs_adapted adapted;
     static etcs_value_dropped value;
@@ -25,11 +25,7 @@ void drops(etcs_unit *unit, etcs_opening *opening, etcs_file *file, etcs_unit_ou
     etcs_decode(bytes, 8);
     etcs_status_classify(*count, ETCS_OF_DRIVER);
     etcs_unit_open(unit, bytes, 512, ETCS_COLD_UNKNOWN);
-    etcs_opening_begin(opening, 25, ETCS_COLD_UNKNOWN);
-    etcs_opening_go_on(opening, unit);
-    etcs_opening_wanted(opening, number);
-    etcs_opening_provide(opening, 0, bytes, 512);
-    etcs_unit_wanted(unit, number);
+    etcs_unit_begin(unit, 25, ETCS_COLD_UNKNOWN);
     etcs_unit_provide(unit, 0, bytes, 512);
     etcs_unit_telegram(unit, bytes, 8);
     etcs_unit_odometer(unit, 0, 0);
@@ -39,8 +35,8 @@ void drops(etcs_unit *unit, etcs_opening *opening, etcs_file *file, etcs_unit_ou
     etcs_unit_running_number(unit, 1);
     etcs_unit_train_data(unit, &train);
     etcs_unit_prepare(unit);
-    etcs_unit_request(unit, 0, &request, bytes, 8192);
-    etcs_unit_done(unit, 0);
+    etcs_unit_request(unit, &request, bytes, 8192);
+    etcs_unit_done(unit);
     etcs_unit_release(unit, outputs, 8, count);
     etcs_unit_command(outputs, *count, outputs);
     etcs_unit_format_request(4, 0, &request, bytes, 512);
@@ -70,6 +66,5 @@ void drops(etcs_unit *unit, etcs_opening *opening, etcs_file *file, etcs_unit_ou
     /* up to here; the answers of these say nothing of the brake */
     (void)etcs_unit_fail(unit);
     (void)etcs_unit_close(unit);
-    (void)etcs_opening_close(opening);
     (void)etcs_file_close(file, unit);
 }

@@ -71,21 +71,20 @@ static void take_meanwhile(etcs_unit *unit) {
 static uint32_t carry_out(etcs_file *file, etcs_unit *unit) {
     if (left < 0 && !is_slow)
         return etcs_file_carry_out(file, unit);
-    etcs_unit_state_info state;
     etcs_unit_request_info request;
     uint8_t bytes[ETCS_UNIT_REQUEST_BYTES];
-    if (etcs_unit_state(unit, &state) != ETCS_UNIT_OK)
-        return ETCS_FILE_UNIT;
-    for (uint32_t index = 0; index < state.requests; index++, left--) {
-        take_meanwhile(unit);
-        if (left == 0)
-            return etcs_unit_fail(unit) == ETCS_UNIT_OK ? ETCS_FILE_CANT_WRITE : ETCS_FILE_UNIT;
-        if (etcs_unit_request(unit, index, &request, bytes, sizeof bytes) != ETCS_UNIT_OK)
-            return ETCS_FILE_UNIT;
-        if (etcs_file_do_(file, &request, bytes) != ETCS_FILE_OK || etcs_unit_done(unit, index + 1) != ETCS_UNIT_OK)
+    uint32_t status;
+    while ((status = etcs_unit_request(unit, &request, bytes, sizeof bytes)) == ETCS_UNIT_OK) {
+        if (request.kind != ETCS_REQUEST_READ) {
+            take_meanwhile(unit);
+            if (left == 0)
+                return etcs_unit_fail(unit) == ETCS_UNIT_OK ? ETCS_FILE_CANT_WRITE : ETCS_FILE_UNIT;
+            left--;
+        }
+        if (etcs_file_serve_(file, unit, &request, bytes) != ETCS_FILE_OK)
             return ETCS_FILE_UNIT;
     }
-    return ETCS_FILE_OK;
+    return status == ETCS_UNIT_NO_SUCH_REQUEST ? ETCS_FILE_OK : ETCS_FILE_UNIT;
 }
 
 /* Puts what is pending onto the file, and prints what is released. What an input answered meanwhile comes after that. */
@@ -121,23 +120,18 @@ static uint32_t live(etcs_file *file, etcs_unit *unit) {
     return status == ETCS_UNIT_OK ? flush(file, unit, 1) : status;
 }
 
-/* An opening by sectors that ends after so many of them: what going on answers then. */
+/* A power-up that is abandoned after so many sectors: what handing in the last one answered. */
 static uint32_t stopped(etcs_file *file, const char *path, uint32_t cold, long sectors) {
     etcs_unit unit = {0};
-    etcs_opening opening = {0};
-    uint8_t bytes[ETCS_UNIT_SECTOR];
-    uint64_t sector = 0;
+    etcs_unit_request_info request;
+    uint8_t bytes[ETCS_UNIT_REQUEST_BYTES];
     uint32_t status = ETCS_UNIT_FAILED;
     if (etcs_file_lock_(file, path, 0) == ETCS_FILE_OK && etcs_file_settle_(file) == ETCS_FILE_OK)
-        status = etcs_opening_begin(&opening, (uint64_t)lseek(file->descriptor, 0, SEEK_END) / ETCS_UNIT_SECTOR, cold);
-    if (status != ETCS_UNIT_OK)
-        return status;
-    while ((status = etcs_opening_go_on(&opening, &unit)) == ETCS_UNIT_SECTOR_WANTED && sectors-- > 0)
-        if (etcs_opening_wanted(&opening, &sector) != ETCS_UNIT_OK
-            || pread(file->descriptor, bytes, sizeof bytes, (off_t)(sector * ETCS_UNIT_SECTOR)) != (ssize_t)sizeof bytes
-            || etcs_opening_provide(&opening, sector, bytes, sizeof bytes) != ETCS_UNIT_OK)
-            return ETCS_UNIT_FAILED;
-    (void)etcs_opening_close(&opening);
+        status = etcs_unit_begin(&unit, (uint64_t)lseek(file->descriptor, 0, SEEK_END) / ETCS_UNIT_SECTOR, cold);
+    while (status == ETCS_UNIT_OK && sectors-- > 0 && etcs_unit_request(&unit, &request, bytes, sizeof bytes) == ETCS_UNIT_OK
+           && request.kind == ETCS_REQUEST_READ)
+        status = etcs_file_serve_(file, &unit, &request, bytes) == ETCS_FILE_OK ? (uint32_t)ETCS_UNIT_OK : file->status;
+    (void)etcs_unit_close(&unit);
     return status;
 }
 

@@ -179,16 +179,41 @@ static uint32_t fails(etcs_unit *unit) {
     return ETCS_UNIT_FAILED;
 }
 
+/* Reads a sector and hands it in; whether it could be read. */
+static int hands_in(etcs_unit *unit, uint64_t sector) {
+    uint8_t bytes[ETCS_UNIT_SECTOR];
+    if (!on->read_sector(&nor, sector, bytes))
+        return 0;
+    is("a sector is handed in", etcs_unit_provide(unit, sector, bytes, sizeof bytes), ETCS_UNIT_OK);
+    return 1;
+}
+
+/* Reads the sectors of a power-up. Where that fails there is no unit. */
+static uint32_t reads_all(etcs_unit *unit) {
+    static uint8_t bytes[ETCS_UNIT_REQUEST_BYTES];
+    etcs_unit_request_info request;
+    while (etcs_unit_request(unit, &request, bytes, sizeof bytes) == ETCS_UNIT_OK && request.kind == ETCS_REQUEST_READ) {
+        if (!hands_in(unit, request.sector)) {
+            is("a power-up is abandoned", etcs_unit_fail(unit), ETCS_UNIT_OK);
+            return ETCS_UNIT_FAILED;
+        }
+    }
+    return ETCS_UNIT_OK;
+}
+
 /* Carries out the list, with inputs between its requests, and releases. */
 static uint32_t carries_out(etcs_unit *unit) {
     static uint8_t bytes[ETCS_UNIT_REQUEST_BYTES];
     etcs_unit_output outputs[ETCS_UNIT_OUTPUTS];
     etcs_unit_request_info request;
-    uint32_t index = 0, count = 0, status;
-    while ((status = etcs_unit_request(unit, index, &request, bytes, sizeof bytes)) == ETCS_UNIT_OK) {
-        if (!on->carry_out(&nor, &request, bytes))
+    uint32_t index = 0, count = 0;
+    while (etcs_unit_request(unit, &request, bytes, sizeof bytes) == ETCS_UNIT_OK) {
+        if (request.kind == ETCS_REQUEST_READ ? !hands_in(unit, request.sector) : !on->carry_out(&nor, &request, bytes))
             return fails(unit);
-        is("a request is done", etcs_unit_done(unit, ++index), ETCS_UNIT_OK);
+        if (request.kind == ETCS_REQUEST_READ)
+            continue;
+        is("a request is done", etcs_unit_done(unit), ETCS_UNIT_OK);
+        index++;
         if (draw(3) == 0)
             take(unit);
         if (on->is_nor && draw(8) == 0 && !etcs_nor_erase_ahead(&nor))
@@ -200,24 +225,13 @@ static uint32_t carries_out(etcs_unit *unit) {
     return on->is_nor && draw(4) && !etcs_nor_erase_ahead(&nor) ? fails(unit) : (uint32_t)ETCS_UNIT_OK;
 }
 
-static uint32_t hands_in(etcs_opening *opening, etcs_unit *unit) {
-    uint8_t bytes[ETCS_UNIT_SECTOR];
-    uint64_t sector = SECTORS;
-    is("a sector is wanted", opening ? etcs_opening_wanted(opening, &sector) : etcs_unit_wanted(unit, &sector), ETCS_UNIT_OK);
-    if (!on->read_sector(&nor, sector, bytes))
-        return ETCS_UNIT_FAILED;
-    return opening ? etcs_opening_provide(opening, sector, bytes, sizeof bytes) : etcs_unit_provide(unit, sector, bytes, sizeof bytes);
-}
-
 /* A life of so many flushes. */
 static uint32_t life(uint32_t flushes) {
     etcs_unit unit = {0};
-    etcs_opening opening = {0};
-    uint32_t status = etcs_opening_begin(&opening, SECTORS, ETCS_COLD_UNKNOWN);
+    uint32_t status = etcs_unit_begin(&unit, SECTORS, ETCS_COLD_UNKNOWN);
     nor.next = 0;
-    while (status == ETCS_UNIT_OK && (status = etcs_opening_go_on(&opening, &unit)) == ETCS_UNIT_SECTOR_WANTED)
-        status = hands_in(&opening, NULL);
-    (void)etcs_opening_close(&opening);
+    if (status == ETCS_UNIT_OK)
+        status = reads_all(&unit);
     if (status != ETCS_UNIT_OK)
         return status;
     moments[next++ % MOST_EVENTS] = 0;
@@ -225,9 +239,8 @@ static uint32_t life(uint32_t flushes) {
     for (uint32_t i = 0; i < flushes && status == ETCS_UNIT_OK; i++) {
         for (uint32_t input = draw(4); input > 0; input--)
             take(&unit);
-        while ((status = etcs_unit_prepare(&unit)) == ETCS_UNIT_SECTOR_WANTED && hands_in(NULL, &unit) == ETCS_UNIT_OK)
-            continue;
-        status = status == ETCS_UNIT_OK ? carries_out(&unit) : fails(&unit);
+        is("a preparation", etcs_unit_prepare(&unit), ETCS_UNIT_OK);
+        status = carries_out(&unit);
     }
     is("a close", etcs_unit_close(&unit), ETCS_UNIT_OK);
     return status;

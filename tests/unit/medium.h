@@ -47,60 +47,54 @@ static inline medium formatted(uint32_t slots) {
     return on;
 }
 
-/* Carries out all requests of the list, and says so. */
-static inline uint32_t carry_out(medium *on, etcs_unit *unit) {
-    etcs_unit_request_info request;
-    uint8_t bytes[ETCS_UNIT_REQUEST_BYTES];
-    uint32_t count = 0, status;
-    while ((status = etcs_unit_request(unit, count, &request, bytes, sizeof bytes)) == ETCS_UNIT_OK) {
-        do_on(on, &request, bytes);
-        count++;
-    }
-    return status == ETCS_UNIT_NO_SUCH_REQUEST ? etcs_unit_done(unit, count) : status;
-}
-
 /* The bytes of a sector. */
 static inline const uint8_t *sector_of(const medium *on, uint64_t sector) {
     return on->bytes + sector * ETCS_UNIT_SECTOR;
 }
 
-/* Prepares; of a unit that holds only some sectors hands in what it wants. */
-static inline uint32_t prepared(const medium *on, etcs_unit *unit) {
-    uint64_t sector;
+/* Carries out one request, and says so. */
+static inline uint32_t do_request(medium *on, etcs_unit *unit, const etcs_unit_request_info *request, const uint8_t *bytes) {
+    if (request->kind == ETCS_REQUEST_READ)
+        return etcs_unit_provide(unit, request->sector, sector_of(on, request->sector), ETCS_UNIT_SECTOR);
+    do_on(on, request, bytes);
+    return etcs_unit_done(unit);
+}
+
+/* Carries out all that is to be done. */
+static inline uint32_t carry_out(medium *on, etcs_unit *unit) {
+    etcs_unit_request_info request;
+    uint8_t bytes[ETCS_UNIT_REQUEST_BYTES];
     uint32_t status;
-    while ((status = etcs_unit_prepare(unit)) == ETCS_UNIT_SECTOR_WANTED) {
-        status = etcs_unit_wanted(unit, &sector);
-        if (status == ETCS_UNIT_OK)
-            status = etcs_unit_provide(unit, sector, sector_of(on, sector), ETCS_UNIT_SECTOR);
-        if (status != ETCS_UNIT_OK)
+    while ((status = etcs_unit_request(unit, &request, bytes, sizeof bytes)) == ETCS_UNIT_OK)
+        if ((status = do_request(on, unit, &request, bytes)) != ETCS_UNIT_OK)
+            return status;
+    return status == ETCS_UNIT_NO_SUCH_REQUEST ? (uint32_t)ETCS_UNIT_OK : status;
+}
+
+/* Hands in the sectors that are to be read before anything is written; how many goes to `sectors`. */
+static inline uint32_t read_sectors(const medium *on, etcs_unit *unit, uint64_t *sectors) {
+    etcs_unit_request_info request;
+    uint8_t bytes[ETCS_UNIT_REQUEST_BYTES];
+    uint32_t status;
+    *sectors = 0;
+    while ((status = etcs_unit_request(unit, &request, bytes, sizeof bytes)) == ETCS_UNIT_OK && request.kind == ETCS_REQUEST_READ) {
+        ++*sectors;
+        if ((status = etcs_unit_provide(unit, request.sector, sector_of(on, request.sector), ETCS_UNIT_SECTOR)) != ETCS_UNIT_OK)
             return status;
     }
-    return status;
+    return status == ETCS_UNIT_NO_SUCH_REQUEST ? (uint32_t)ETCS_UNIT_OK : status;
 }
 
 /* Opens a unit by sectors; how many were handed in goes to `sectors`. */
 static inline uint32_t opened_by_sectors(const medium *on, etcs_unit *unit, uint32_t cold, uint64_t *sectors) {
-    etcs_opening opening = {0};
-    uint64_t sector;
-    uint32_t status = etcs_opening_begin(&opening, on->len / ETCS_UNIT_SECTOR, cold);
+    const uint32_t status = etcs_unit_begin(unit, on->len / ETCS_UNIT_SECTOR, cold);
     *sectors = 0;
-    if (status != ETCS_UNIT_OK)
-        return status;
-    while ((status = etcs_opening_go_on(&opening, unit)) == ETCS_UNIT_SECTOR_WANTED) {
-        status = etcs_opening_wanted(&opening, &sector);
-        if (status == ETCS_UNIT_OK)
-            status = etcs_opening_provide(&opening, sector, sector_of(on, sector), ETCS_UNIT_SECTOR);
-        if (status != ETCS_UNIT_OK)
-            break;
-        ++*sectors;
-    }
-    (void)etcs_opening_close(&opening);
-    return status;
+    return status == ETCS_UNIT_OK ? read_sectors(on, unit, sectors) : status;
 }
 
 /* Prepares, carries out and releases; how many outputs there are goes to `count`. */
 static inline uint32_t flushed(medium *on, etcs_unit *unit, etcs_unit_output *outputs, uint32_t *count) {
-    uint32_t status = prepared(on, unit);
+    uint32_t status = etcs_unit_prepare(unit);
     if (status == ETCS_UNIT_OK)
         status = carry_out(on, unit);
     return status == ETCS_UNIT_OK ? etcs_unit_release(unit, outputs, ETCS_UNIT_OUTPUTS, count) : status;

@@ -158,13 +158,14 @@ static uint32_t carries_out(uint64_t *to) {
     etcs_unit_request_info request;
     etcs_unit_output outputs[ETCS_UNIT_OUTPUTS];
     uint8_t written[ETCS_UNIT_REQUEST_BYTES];
-    uint32_t index = 0, count = 0;
-    for (; etcs_unit_request(&unit, index, &request, written, sizeof written) == ETCS_UNIT_OK; index++) {
-        digest(to, &request, sizeof request);
-        digest(to, written, (size_t)request.sectors * ETCS_UNIT_SECTOR);
-        do_on(&on, &request, written);
+    uint32_t count = 0;
+    while (etcs_unit_request(&unit, &request, written, sizeof written) == ETCS_UNIT_OK) {
+        if (request.kind != ETCS_REQUEST_READ) {
+            digest(to, &request, sizeof request);
+            digest(to, written, (size_t)request.sectors * ETCS_UNIT_SECTOR);
+        }
+        is("done", do_request(&on, &unit, &request, written), ETCS_UNIT_OK);
     }
-    is("done", etcs_unit_done(&unit, index), ETCS_UNIT_OK);
     const uint32_t status = etcs_unit_release(&unit, outputs, ETCS_UNIT_OUTPUTS, &count);
     digest(to, outputs, count * sizeof outputs[0]);
     return status;
@@ -179,7 +180,7 @@ static answer answer_to(const char *line) {
         found.status = asks(line, opens, cold);
     const unsigned long before = asked;
     if (flushes)
-        found.status = prepared(&on, &unit);
+        found.status = etcs_unit_prepare(&unit);
     if (closes)
         found.status = etcs_unit_close(&unit);
     if (found.status == ETCS_UNIT_OK && (opens || flushes))

@@ -17,32 +17,31 @@ static uint32_t draw(uint32_t below) {
 
 static uint32_t handed_in;
 
-/* Hands in what the medium holds of the sector that the opening wants, or else the unit. */
-static uint32_t hand_in(const medium *on, etcs_opening *opening, etcs_unit *unit) {
-    uint64_t sector = UINT64_MAX;
-    uint32_t status = opening ? etcs_opening_wanted(opening, &sector) : etcs_unit_wanted(unit, &sector);
-    is("a sector is wanted", status, ETCS_UNIT_OK);
-    is("the medium has it", sector < on->len / ETCS_UNIT_SECTOR, 1);
-    if (status != ETCS_UNIT_OK || sector >= on->len / ETCS_UNIT_SECTOR)
-        return ETCS_UNIT_FAILED;
-    handed_in++;
-    const uint8_t *const bytes = on->bytes + sector * ETCS_UNIT_SECTOR;
-    status = opening ? etcs_opening_provide(opening, sector, bytes, ETCS_UNIT_SECTOR) : etcs_unit_provide(unit, sector, bytes, ETCS_UNIT_SECTOR);
-    is("it is handed in", status, ETCS_UNIT_OK);
-    is("it isn't wanted any more", opening ? etcs_opening_wanted(opening, &sector) : etcs_unit_wanted(unit, &sector), ETCS_UNIT_NONE_WANTED);
-    return status;
+/* Whether a sector is to be read next; which one goes to `sector`. */
+static int is_to_read(etcs_unit *unit, uint64_t *sector) {
+    static uint8_t bytes[ETCS_UNIT_REQUEST_BYTES];
+    etcs_unit_request_info request;
+    const int is_read = etcs_unit_request(unit, &request, bytes, sizeof bytes) == ETCS_UNIT_OK && request.kind == ETCS_REQUEST_READ;
+    *sector = is_read ? request.sector : UINT64_MAX;
+    is("a read is of one sector", is_read ? request.sectors : 1, 1);
+    return is_read;
 }
 
-/* Powers up in steps. */
+/* Hands in what the medium holds of this sector, which is to be read. */
+static uint32_t hand_in(const medium *on, etcs_unit *unit, uint64_t sector) {
+    is("the medium has it", sector < on->len / ETCS_UNIT_SECTOR, 1);
+    if (sector >= on->len / ETCS_UNIT_SECTOR)
+        return ETCS_UNIT_FAILED;
+    handed_in++;
+    return etcs_unit_provide(unit, sector, sector_of(on, sector), ETCS_UNIT_SECTOR);
+}
+
+/* Powers up by sectors. */
 static uint32_t opened(const medium *on, etcs_unit *unit, uint32_t cold) {
-    etcs_opening opening = {NULL, 0};
-    uint32_t status = etcs_opening_begin(&opening, on->len / ETCS_UNIT_SECTOR, cold);
-    if (status != ETCS_UNIT_OK)
-        return status;
-    while ((status = etcs_opening_go_on(&opening, unit)) == ETCS_UNIT_SECTOR_WANTED)
-        if (hand_in(on, &opening, NULL) != ETCS_UNIT_OK)
-            break;
-    is("it is closed then", etcs_opening_close(&opening), ETCS_UNIT_NOT_OPEN);
+    uint64_t sector;
+    uint32_t status = etcs_unit_begin(unit, on->len / ETCS_UNIT_SECTOR, cold);
+    while (status == ETCS_UNIT_OK && is_to_read(unit, &sector))
+        status = hand_in(on, unit, sector);
     return status;
 }
 
@@ -96,40 +95,44 @@ static void read_ahead(side *few) {
     is("a sector is read ahead", etcs_unit_provide(&few->unit, sector, sector_of(&few->on, sector), ETCS_UNIT_SECTOR), ETCS_UNIT_OK);
 }
 
-/* Prepares; the sector of a gate is wanted at most once. Where its read fails, so does the unit. */
+/* Prepares; the sector of a gate is to be read at most once. Where its read fails, so does the unit. */
 static uint32_t prepared_once(side *few) {
+    uint64_t sector;
     uint32_t status = etcs_unit_prepare(&few->unit);
-    if (status == ETCS_UNIT_SECTOR_WANTED && draw(20) == 0) {
+    const int is_read = status == ETCS_UNIT_OK && is_to_read(&few->unit, &sector);
+    if (is_read && draw(20) == 0) {
         fail(&few->unit);
         return ETCS_UNIT_FAILED;
     }
-    if (status == ETCS_UNIT_SECTOR_WANTED && hand_in(&few->on, NULL, &few->unit) == ETCS_UNIT_OK)
-        status = etcs_unit_prepare(&few->unit);
+    if (is_read)
+        status = hand_in(&few->on, &few->unit, sector);
+    is("none is to be read then", (uint64_t)(status == ETCS_UNIT_OK && is_to_read(&few->unit, &sector)), 0);
     return status;
 }
 
-/* Carries out so many requests of the list, and a part of the next one, or all; those of both sides are the same. How many there are. */
-static uint32_t carried_out(side *copy, side *few, uint32_t most) {
+/* Carries out so many requests of the list, and a part of the next one, or all; those of both sides are the same. Whether that was all. */
+static int carried_out(side *copy, side *few, uint32_t most) {
     static uint8_t bytes[2][ETCS_UNIT_REQUEST_BYTES];
     etcs_unit_request_info request[2];
-    uint32_t count = 0;
-    for (;; count++) {
+    for (uint32_t count = 0;; count++) {
         memset(bytes, 0, sizeof bytes);
         memset(request, 0, sizeof request);
-        const uint32_t status = etcs_unit_request(&copy->unit, count, &request[0], bytes[0], sizeof bytes[0]);
-        is("a request", etcs_unit_request(&few->unit, count, &request[1], bytes[1], sizeof bytes[1]), status);
+        const uint32_t status = etcs_unit_request(&copy->unit, &request[0], bytes[0], sizeof bytes[0]);
+        is("a request", etcs_unit_request(&few->unit, &request[1], bytes[1], sizeof bytes[1]), status);
         if (status != ETCS_UNIT_OK)
-            return count;
+            return 1;
         is("its sectors", (uint64_t)memcmp(&request[0], &request[1], sizeof request[0]), 0);
         is("its bytes", (uint64_t)memcmp(bytes[0], bytes[1], sizeof bytes[0]), 0);
         if (request[1].kind == ETCS_REQUEST_WRITE)
             last_written = request[1].sector;
-        if (count > most)
-            continue;
         if (count == most)
             request[0].sectors = request[1].sectors = draw((uint32_t)request[0].sectors + 1);
         do_on(&copy->on, &request[0], bytes[0]);
         do_on(&few->on, &request[1], bytes[1]);
+        if (count == most)
+            return 0;
+        is("done", etcs_unit_done(&copy->unit), ETCS_UNIT_OK);
+        is("done", etcs_unit_done(&few->unit), ETCS_UNIT_OK);
         if (draw(6) == 0)
             take_both(copy, few);
     }
@@ -140,17 +143,15 @@ static int released(side *copy, side *few, int cut) {
     static etcs_unit_output outputs[2][ETCS_UNIT_OUTPUTS];
     uint32_t count[2] = {0, 0};
     const uint32_t most = cut ? draw(6) : UINT32_MAX;
-    const uint32_t requests = carried_out(copy, few, most);
+    const int is_all = carried_out(copy, few, most);
     is("the same medium", (uint64_t)memcmp(copy->on.bytes, few->on.bytes, copy->on.len), 0);
-    if (most < requests) {
+    if (!is_all) {
         if (draw(2)) {
             fail(&copy->unit);
             fail(&few->unit);
         }
         return 0;
     }
-    is("done", etcs_unit_done(&copy->unit, requests), ETCS_UNIT_OK);
-    is("done", etcs_unit_done(&few->unit, requests), ETCS_UNIT_OK);
     memset(outputs, 0, sizeof outputs);
     is("release", etcs_unit_release(&copy->unit, outputs[0], ETCS_UNIT_OUTPUTS, &count[0]), ETCS_UNIT_OK);
     is("release", etcs_unit_release(&few->unit, outputs[1], ETCS_UNIT_OUTPUTS, &count[1]), ETCS_UNIT_OK);
@@ -159,18 +160,19 @@ static int released(side *copy, side *few, int cut) {
     return 1;
 }
 
-/* In how many flushes a sector was wanted. */
+/* In how many flushes a sector was read. */
 static uint32_t wants;
 
-/* An opening whose read fails after some sectors is given up, and writes nothing. */
+/* A power-up whose read fails after some sectors is abandoned, and writes nothing. */
 static void give_up(const medium *on, uint32_t cold) {
-    etcs_opening opening = {NULL, 0};
-    etcs_unit unit = {NULL, 0};
-    is("an opening", etcs_opening_begin(&opening, on->len / ETCS_UNIT_SECTOR, cold), ETCS_UNIT_OK);
-    for (uint32_t sectors = draw(5); etcs_opening_go_on(&opening, &unit) == ETCS_UNIT_SECTOR_WANTED && sectors > 0; sectors--)
-        (void)hand_in(on, &opening, NULL);
-    is("it is given up", etcs_opening_close(&opening), ETCS_UNIT_OK);
-    is("there is no unit", etcs_unit_close(&unit), ETCS_UNIT_NOT_OPEN);
+    etcs_unit unit = {NULL, 0, NULL, 0};
+    uint64_t sector;
+    is("a power-up", etcs_unit_begin(&unit, on->len / ETCS_UNIT_SECTOR, cold), ETCS_UNIT_OK);
+    for (uint32_t sectors = draw(5); is_to_read(&unit, &sector) && sectors > 0; sectors--)
+        is("a sector of it", hand_in(on, &unit, sector), ETCS_UNIT_OK);
+    is("no unit is open", etcs_unit_prepare(&unit), ETCS_UNIT_NOT_OPEN);
+    is("it is abandoned", draw(2) ? etcs_unit_fail(&unit) : etcs_unit_close(&unit), ETCS_UNIT_OK);
+    is("there is none then", etcs_unit_close(&unit), ETCS_UNIT_NOT_OPEN);
 }
 
 /* One life on both sides, up to its end, a loss of power or a failure. */
@@ -181,7 +183,7 @@ static void life(side *copy, side *few) {
         give_up(&few->on, cold);
     handed_in = 0;
     is("open", etcs_unit_open(&copy->unit, copy->on.bytes, copy->on.len, cold), ETCS_UNIT_OK);
-    is("open in steps", opened(&few->on, &few->unit, cold), ETCS_UNIT_OK);
+    is("open by sectors", opened(&few->on, &few->unit, cold), ETCS_UNIT_OK);
     /* the first sector, of each slot the gate and the head, the newest block's six and the next gate */
     is("few sectors are read", handed_in <= 1 + 2 * SLOTS + 6 + 1, 1);
     int goes = released(copy, few, draw(10) == 0);
@@ -208,7 +210,7 @@ static void life(side *copy, side *few) {
 /* What no power-up can be of: the answers are those over a copy. */
 static void refusals(const medium *on) {
     medium bad = {(uint8_t *)malloc(on->len), on->len};
-    etcs_unit unit = {NULL, 0};
+    etcs_unit unit = {NULL, 0, NULL, 0};
     for (uint32_t i = 0; i < 600; i++) {
         const uint32_t at = draw(4) ? draw(SLOTS) * 6 * ETCS_UNIT_SECTOR + draw(3 * ETCS_UNIT_SECTOR) : draw((uint32_t)bad.len);
         memcpy(bad.bytes, on->bytes, on->len);
@@ -223,13 +225,13 @@ static void refusals(const medium *on) {
 }
 
 int main(void) {
-    side copy = {formatted(SLOTS), {NULL, 0}}, few = {formatted(SLOTS), {NULL, 0}};
+    side copy = {formatted(SLOTS), {NULL, 0, NULL, 0}}, few = {formatted(SLOTS), {NULL, 0, NULL, 0}};
     for (uint32_t i = 0; i < LIVES; i++)
         life(&copy, &few);
-    is("a sector is wanted in many of the other flushes", wants >= 100, 1);
+    is("a sector is read in many of the other flushes", wants >= 100, 1);
     is("the medium fails", failures >= 60, 1);
     refusals(&copy.on);
     free(copy.on.bytes);
     free(few.on.bytes);
-    return report("over sectors", 98000);
+    return report("over sectors", 80000);
 }

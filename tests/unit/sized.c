@@ -37,42 +37,33 @@ static uint32_t opened_over_a_copy(etcs_unit *unit, size_t size) {
     return status;
 }
 
-static uint32_t opened_sector_by_sector(etcs_unit *unit, size_t size) {
-    etcs_opening opening = {0};
-    uint8_t bytes[ETCS_UNIT_SECTOR];
-    uint64_t sector;
-    uint32_t status;
-    is("begin", etcs_opening_begin(&opening, size / ETCS_UNIT_SECTOR, ETCS_COLD_UNKNOWN), ETCS_UNIT_OK);
-    while ((status = etcs_opening_go_on(&opening, unit)) == ETCS_UNIT_SECTOR_WANTED) {
-        if (etcs_opening_wanted(&opening, &sector) != ETCS_UNIT_OK || !reads(sector, bytes, sizeof bytes)
-            || etcs_opening_provide(&opening, sector, bytes, sizeof bytes) != ETCS_UNIT_OK)
-            exit(2);
+/* Carries out what is to be done: only the reads at first, or all of it. */
+static void does_requests(etcs_unit *unit, int all) {
+    static uint8_t bytes[ETCS_UNIT_REQUEST_BYTES];
+    etcs_unit_request_info request;
+    while (etcs_unit_request(unit, &request, bytes, sizeof bytes) == ETCS_UNIT_OK && (all || request.kind == ETCS_REQUEST_READ)) {
+        const int is_read = request.kind == ETCS_REQUEST_READ;
+        is("a request", (uint64_t)(is_read ? reads(request.sector, bytes, ETCS_UNIT_SECTOR) : carries_out(&request, bytes)), 1);
+        is("it is done", is_read ? etcs_unit_provide(unit, request.sector, bytes, ETCS_UNIT_SECTOR) : etcs_unit_done(unit), ETCS_UNIT_OK);
     }
+}
+
+static uint32_t opened_sector_by_sector(etcs_unit *unit, size_t size) {
+    const uint32_t status = etcs_unit_begin(unit, size / ETCS_UNIT_SECTOR, ETCS_COLD_UNKNOWN);
+    does_requests(unit, 0);
     return status;
 }
 
 static void released(etcs_unit *unit) {
-    static uint8_t bytes[ETCS_UNIT_REQUEST_BYTES];
     etcs_unit_output outputs[ETCS_UNIT_OUTPUTS];
-    etcs_unit_request_info request;
-    uint32_t index = 0, count;
-    for (; etcs_unit_request(unit, index, &request, bytes, sizeof bytes) == ETCS_UNIT_OK; index++)
-        is("a request", (uint64_t)carries_out(&request, bytes), 1);
-    is("done", etcs_unit_done(unit, index), ETCS_UNIT_OK);
+    uint32_t count;
+    does_requests(unit, 1);
     is("release", etcs_unit_release(unit, outputs, ETCS_UNIT_OUTPUTS, &count), ETCS_UNIT_OK);
 }
 
 static void flush_a_moment(etcs_unit *unit, uint64_t moment) {
-    uint8_t bytes[ETCS_UNIT_SECTOR];
-    uint64_t sector;
-    uint32_t status;
     is("clock", etcs_unit_clock(unit, moment), ETCS_UNIT_OK);
-    while ((status = etcs_unit_prepare(unit)) == ETCS_UNIT_SECTOR_WANTED) {
-        if (etcs_unit_wanted(unit, &sector) != ETCS_UNIT_OK || !reads(sector, bytes, sizeof bytes)
-            || etcs_unit_provide(unit, sector, bytes, sizeof bytes) != ETCS_UNIT_OK)
-            exit(2);
-    }
-    is("prepare", status, ETCS_UNIT_OK);
+    is("prepare", etcs_unit_prepare(unit), ETCS_UNIT_OK);
     released(unit);
 }
 

@@ -31,7 +31,7 @@ def life(library, same):
         return status, count
 
     same("format", carry_out(lambda index: library.etcs_unit_format_request(SLOTS, index, request, room, size))[0], 249)
-    unit = (ctypes.c_uint64 * 2)()
+    unit = (ctypes.c_uint64 * 4)()
     same("open", library.etcs_unit_open(unit, bytes(image), ctypes.c_size_t(len(image)), 0), 0)
     same("open again", library.etcs_unit_open(unit, bytes(image), ctypes.c_size_t(len(image)), 0), 251)
     outputs, many = (ctypes.c_uint64 * 16)(), ctypes.c_uint32(99)
@@ -39,10 +39,16 @@ def life(library, same):
         if moment is not None:
             same("clock", library.etcs_unit_clock(unit, long(moment)), 0)
             same("prepare", library.etcs_unit_prepare(unit), 0)
-        status, count = carry_out(lambda index: library.etcs_unit_request(unit, index, request, room, size))
-        same("requests", (status, count > 0), (249, True))
         same("owed", (library.etcs_unit_release(unit, outputs, ctypes.c_size_t(8), ctypes.byref(many)), many.value), (22, 99))
-        same("done", library.etcs_unit_done(unit, count), 0)
+        done = []
+
+        def next_request(_index):
+            if done:
+                same("done", library.etcs_unit_done(unit), 0)
+            done.append(library.etcs_unit_request(unit, request, room, size))
+            return done[-1]
+
+        same("requests", (carry_out(next_request)[0], len(done) > 1), (249, True))
         same("release", (library.etcs_unit_release(unit, outputs, ctypes.c_size_t(8), ctypes.byref(many)), many.value), (0, events))
         many.value = 99
     same("the event", outputs[0], 2)

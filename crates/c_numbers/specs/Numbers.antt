@@ -6,7 +6,7 @@ use Rattle.reasons.specs.declared.limit_texts.LimitKind.TheVariants as kind
 
 -- the number of the interface
 abbrev pub this_abi : ℕ
-this_abi = 5
+this_abi = 6
 
 abbrev pub flag_of : Bool → ℕ
 flag_of set = if set then 1 else 0

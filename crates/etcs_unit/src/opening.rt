@@ -1,67 +1,64 @@
-//! The calls of `include/etcs_unit.h` on a power-up that is under way, and on sectors of a medium that isn't copied.
+//! The calls of `include/etcs_unit.h` on a unit from its power-up on.
 use std::alloc::Global;
 use unit_calls::{
-    EtcsOpening, EtcsUnit, begin_call, go_on_call, opening_close_call, opening_provide_call,
-    opening_wanted_call, provide_call, wanted_call,
+    EtcsRequest, EtcsUnit, unit_begin_call, unit_close_call, unit_fail_call, unit_open_call,
+    unit_provide_call, unit_request_call,
 };
 
 /// Begins a power-up on a medium of so many sectors, of which none is known.
 #[unsafe(no_mangle)]
-pub extern "C" fn etcs_opening_begin_(
+pub extern "C" fn etcs_unit_begin_(
     alloc: Global,
-    opening: &mut EtcsOpening,
+    unit: &mut EtcsUnit,
     sectors: u64,
     cold: u32,
     abi: u32,
 ) -> u32 {
-    begin_call(alloc, opening, sectors, cold, abi).number()
+    unit_begin_call(alloc, unit, sectors, cold, abi).number()
 }
 
-/// Goes on as far as sectors are known.
+/// Powers up on these sectors.
 #[unsafe(no_mangle)]
-pub extern "C" fn etcs_opening_go_on_(
+pub extern "C" fn etcs_unit_open_(
     alloc: Global,
-    opening: &mut EtcsOpening,
     unit: &mut EtcsUnit,
+    image: &[u8],
+    cold: u32,
+    abi: u32,
 ) -> u32 {
-    go_on_call(alloc, opening, unit).number()
+    unit_open_call(alloc, unit, image, cold, abi).number()
 }
 
-/// Reports the sector that a power-up wants.
+/// Reports what is to be done next on the medium, and the bytes that it writes.
 #[unsafe(no_mangle)]
-pub extern "C" fn etcs_opening_wanted_(
+pub extern "C" fn etcs_unit_request_(
     alloc: Global,
-    opening: &mut EtcsOpening,
-    sector: &mut u64,
+    unit: &mut EtcsUnit,
+    request: &mut EtcsRequest,
+    bytes: &mut [u8],
 ) -> u32 {
-    opening_wanted_call(alloc, opening, sector).number()
+    unit_request_call(alloc, unit, request, bytes).number()
 }
 
-/// Hands in what the medium holds of a sector to a power-up.
+/// Hands in what the medium holds of a sector, and goes on.
 #[unsafe(no_mangle)]
-pub extern "C" fn etcs_opening_provide_(
+pub extern "C" fn etcs_unit_provide_(
     alloc: Global,
-    opening: &mut EtcsOpening,
+    unit: &mut EtcsUnit,
     sector: u64,
     bytes: &[u8],
 ) -> u32 {
-    opening_provide_call(alloc, opening, sector, bytes).number()
+    unit_provide_call(alloc, unit, sector, bytes).number()
 }
 
-/// Closes a power-up.
+/// Says that the medium failed.
 #[unsafe(no_mangle)]
-pub extern "C" fn etcs_opening_close_(alloc: Global, opening: &mut EtcsOpening) -> u32 {
-    opening_close_call(alloc, opening).number()
+pub extern "C" fn etcs_unit_fail_(alloc: Global, unit: &mut EtcsUnit) -> u32 {
+    unit_fail_call(alloc, unit).number()
 }
 
-/// Reports the sector that a unit wants.
+/// Closes it.
 #[unsafe(no_mangle)]
-pub extern "C" fn etcs_unit_wanted_(unit: &mut EtcsUnit, sector: &mut u64) -> u32 {
-    wanted_call(unit, sector).number()
-}
-
-/// Hands in what the medium holds of a sector to a unit.
-#[unsafe(no_mangle)]
-pub extern "C" fn etcs_unit_provide_(unit: &mut EtcsUnit, sector: u64, bytes: &[u8]) -> u32 {
-    provide_call(unit, sector, bytes).number()
+pub extern "C" fn etcs_unit_close_(alloc: Global, unit: &mut EtcsUnit) -> u32 {
+    unit_close_call(alloc, unit).number()
 }

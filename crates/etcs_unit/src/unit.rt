@@ -3,15 +3,15 @@ use c_numbers::abi_call;
 use std::alloc::Global;
 use unit_calls::{
     EtcsOutput, EtcsRequest, EtcsState, EtcsTrainData, EtcsUnit, EtcsUnitDriver, EtcsUnitWhy,
-    action_call, clock_call, close_call, done_call, fail_call, format_request_call, identity_call,
-    odometer_call, open_call, prepare_call, release_call, request_call, running_number_call,
-    state_call, telegram_call, train_data_call, unit_driver_call, unit_why_call, version_call,
+    action_call, clock_call, done_call, format_request_call, identity_call, odometer_call,
+    prepare_call, release_call, running_number_call, state_call, telegram_call, train_data_call,
+    unit_driver_call, unit_why_call, version_call,
 };
 
 /// Takes the bytes that a balise sent.
 #[unsafe(no_mangle)]
 pub extern "C" fn etcs_unit_telegram_(alloc: Global, unit: &mut EtcsUnit, bytes: &[u8]) -> u32 {
-    telegram_call(alloc, unit, bytes).number()
+    telegram_call(alloc, &mut unit.running, bytes).number()
 }
 
 /// Takes a reading of the odometer, in centimetres and metres per hour.
@@ -22,25 +22,25 @@ pub extern "C" fn etcs_unit_odometer_(
     movement: i64,
     speed: u32,
 ) -> u32 {
-    odometer_call(alloc, unit, movement, speed).number()
+    odometer_call(alloc, &mut unit.running, movement, speed).number()
 }
 
 /// Takes a moment, in milliseconds.
 #[unsafe(no_mangle)]
 pub extern "C" fn etcs_unit_clock_(alloc: Global, unit: &mut EtcsUnit, moment: u64) -> u32 {
-    clock_call(alloc, unit, moment).number()
+    clock_call(alloc, &mut unit.running, moment).number()
 }
 
 /// Takes an action of the driver, 1 to 15.
 #[unsafe(no_mangle)]
 pub extern "C" fn etcs_unit_action_(alloc: Global, unit: &mut EtcsUnit, action: u32) -> u32 {
-    action_call(alloc, unit, action).number()
+    action_call(alloc, &mut unit.running, action).number()
 }
 
 /// Takes an identity that the driver enters.
 #[unsafe(no_mangle)]
 pub extern "C" fn etcs_unit_identity_(alloc: Global, unit: &mut EtcsUnit, bytes: &[u8]) -> u32 {
-    identity_call(alloc, unit, bytes).number()
+    identity_call(alloc, &mut unit.running, bytes).number()
 }
 
 /// Takes a running number that the driver enters.
@@ -50,7 +50,7 @@ pub extern "C" fn etcs_unit_running_number_(
     unit: &mut EtcsUnit,
     number: u32,
 ) -> u32 {
-    running_number_call(alloc, unit, number).number()
+    running_number_call(alloc, &mut unit.running, number).number()
 }
 
 /// Takes train data that the driver enters.
@@ -60,36 +60,19 @@ pub extern "C" fn etcs_unit_train_data_(
     unit: &mut EtcsUnit,
     train: &EtcsTrainData,
 ) -> u32 {
-    train_data_call(alloc, unit, train).number()
+    train_data_call(alloc, &mut unit.running, train).number()
 }
 
 /// Puts what is pending onto the copy.
 #[unsafe(no_mangle)]
 pub extern "C" fn etcs_unit_prepare_(unit: &mut EtcsUnit) -> u32 {
-    prepare_call(unit).number()
+    prepare_call(&mut unit.running).number()
 }
 
-/// Reports a request of the list, from 0 on, and the bytes that it writes.
+/// Says that the request that is reported is done.
 #[unsafe(no_mangle)]
-pub extern "C" fn etcs_unit_request_(
-    unit: &mut EtcsUnit,
-    index: u32,
-    request: &mut EtcsRequest,
-    bytes: &mut [u8],
-) -> u32 {
-    request_call(unit, index, request, bytes).number()
-}
-
-/// Says that so many requests, from the first on, are done.
-#[unsafe(no_mangle)]
-pub extern "C" fn etcs_unit_done_(unit: &mut EtcsUnit, count: u32) -> u32 {
-    done_call(unit, count).number()
-}
-
-/// Says that the medium failed.
-#[unsafe(no_mangle)]
-pub extern "C" fn etcs_unit_fail_(unit: &mut EtcsUnit) -> u32 {
-    fail_call(unit).number()
+pub extern "C" fn etcs_unit_done_(unit: &mut EtcsUnit) -> u32 {
+    done_call(&mut unit.running).number()
 }
 
 /// Releases what was held back, all of it, into a buffer for eight.
@@ -99,25 +82,25 @@ pub extern "C" fn etcs_unit_release_(
     outputs: &mut [EtcsOutput],
     count: &mut u32,
 ) -> u32 {
-    release_call(unit, outputs, count).number()
+    release_call(&mut unit.running, outputs, count).number()
 }
 
 /// Reports how far the unit is.
 #[unsafe(no_mangle)]
 pub extern "C" fn etcs_unit_state_(unit: &mut EtcsUnit, state: &mut EtcsState) -> u32 {
-    state_call(unit, state).number()
+    state_call(&mut unit.running, state).number()
 }
 
 /// Reports why the newest released output is what it is.
 #[unsafe(no_mangle)]
 pub extern "C" fn etcs_unit_why_(unit: &mut EtcsUnit, why: &mut EtcsUnitWhy) -> u32 {
-    unit_why_call(unit, why).number()
+    unit_why_call(&mut unit.running, why).number()
 }
 
 /// Reports what the driver entered, and which actions of the driver would be accepted.
 #[unsafe(no_mangle)]
 pub extern "C" fn etcs_unit_driver_(unit: &mut EtcsUnit, driver: &mut EtcsUnitDriver) -> u32 {
-    unit_driver_call(unit, driver).number()
+    unit_driver_call(&mut unit.running, driver).number()
 }
 
 /// The number of this interface.
@@ -130,24 +113,6 @@ pub extern "C" fn etcs_abi() -> u32 {
 #[unsafe(no_mangle)]
 pub extern "C" fn etcs_version_(out: &mut [u8], len: &mut u32) -> u32 {
     version_call(out, len).number()
-}
-
-/// Powers up on these sectors.
-#[unsafe(no_mangle)]
-pub extern "C" fn etcs_unit_open_(
-    alloc: Global,
-    unit: &mut EtcsUnit,
-    image: &[u8],
-    cold: u32,
-    abi: u32,
-) -> u32 {
-    open_call(alloc, unit, image, cold, abi).number()
-}
-
-/// Closes it.
-#[unsafe(no_mangle)]
-pub extern "C" fn etcs_unit_close_(alloc: Global, unit: &mut EtcsUnit) -> u32 {
-    close_call(alloc, unit).number()
 }
 
 /// Reports what is to be done, from 0 on, to make a medium of 1 + 6 * slots sectors an empty journal: each gate is

@@ -1,5 +1,5 @@
--- A power-up in steps wants few sectors.
-use Rattle.std.proofs.Common.{◌≡◌, ℕ, ◌+◌, ◌*◌, ◌<◌, ◌≤◌, List, [], ◌∷◌, length, Option, Some, refl, sym, ◌∙◌, ap, subst, arith}
+-- A power-up wants few sectors.
+use Rattle.std.proofs.Common.{◌≡◌, ℕ, ◌+◌, ◌*◌, ◌<◌, ◌≤◌, List, [], ◌∷◌, length, Option, Some, sym, ◌∙◌, ap, subst, arith}
 use Rattle.std.specs.Prelude.{unwrap_or}
 use Rattle.mode_table.specs.declared.statuses.Cold.{Cold}
 use Rattle.relayed_unit.specs.Openings.{Opening, initial, slots_in, still_needed, IsWanted}

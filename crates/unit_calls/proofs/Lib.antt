@@ -1,5 +1,6 @@
 pub mod Alongside
 pub mod Carrying
+pub mod Either
 pub mod Emptying
 pub mod Ending
 pub mod Floating

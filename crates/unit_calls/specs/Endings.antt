@@ -1,8 +1,9 @@
--- How often a power-up in steps answers that it wants a sector (this project's profile). Sectors have 512 bytes and are
+-- How many sectors a power-up asks for (this project's profile). Sectors have 512 bytes and are
 -- numbered from 0.
 
--- Taken for granted: each call meets its contract (`IsGoneOn`, `IsProvided`), which is proved. The caller hands in the
--- sector that is wanted before he goes on, and no other one; its bytes may be any.
+-- Taken for granted: each call meets its contract, which is proved. `etcs_unit_begin` goes on (`IsGoneOn`), and
+-- `etcs_unit_provide` takes a sector (`IsProvided`) and goes on. The caller hands in the sector that is reported to be read,
+-- and no other one; its bytes may be any.
 use Rattle.std.specs.Prelude.{◌≡◌, ℕ, ◌+◌, ◌*◌, ◌≤◌, List, [], ◌∷◌, length, Some, Ok}
 use Rattle.mode_table.specs.declared.statuses.Cold.{Cold}
 use Rattle.relayed_unit.specs.Openings.{Opening, initial, slots_in}

@@ -46,7 +46,7 @@ pub record IsGoneOn (before : Opening) (reported : Result Going OpenError) : Typ
 -- it goes on in its handle and says so; else that has none, and the unit is in its own, or there was no memory for it
 -- there, or it was refused
 abbrev pub IsLeftOn : Result Going OpenError → Option Opening → Option Opened → Status → Type 0
-IsLeftOn (Ok (a_going.Wants current)) after unit status = (status ≡ a_status.SectorWanted) × (after ≡ Some current) × (unit ≡ None)
+IsLeftOn (Ok (a_going.Wants current)) after unit status = (status ≡ a_status.Done) × (after ≡ Some current) × (unit ≡ None)
 IsLeftOn (Ok (a_going.Open up)) after unit status = (after ≡ None) × IsLeft (Ok up) unit status
 IsLeftOn (Err e) after unit status = (after ≡ None) × IsLeft (Err e) unit status
 

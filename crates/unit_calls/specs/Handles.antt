@@ -1,6 +1,6 @@
 -- What the calls do to what a handle holds (this project's profile): None where no unit is open. `reported` is what the
 -- call of `RelayedUnit` answered, the status its number.
-use Rattle.std.specs.Prelude.{◌≡◌, ◌↔◌, ℕ, ◌/◌, ◌<◌, ◌≤◌, ◌==◌, ◌∷◌, ◌||◌, nat_lt, Bool, true, false, if◌then◌else◌, List, [], length, Option, Some, None, IsSome, IfSome, Result, Ok, Err, IsOk, IfOk, IfErr, OnOk, OnErr, MatchOption, ⊤}
+use Rattle.std.specs.Prelude.{◌≡◌, ◌↔◌, ℕ, ◌+◌, ◌/◌, ◌<◌, ◌≤◌, ◌==◌, ◌∷◌, ◌&&◌, ◌||◌, not, is_some, nat_lt, Bool, true, false, if◌then◌else◌, List, [], length, Option, Some, None, IsSome, IfSome, Result, Ok, Err, IsOk, IfOk, IfErr, OnOk, OnErr, MatchOption, ⊤}
 use Rattle.disk.specs.State.{contents_of, IsSynced}
 use Rattle.events.specs.Limits.{most_pending}
 use Rattle.events.specs.declared.input.Event.{Event}
@@ -20,14 +20,13 @@ use Rattle.onboard.specs.Progress.{progress_of, go_on}
 use Rattle.onboard.specs.declared.errors.AcceptError.{AcceptError}
 use Rattle.onboard.specs.declared.errors.AcceptError.TheVariants as an_accept
 use Rattle.unit_start.specs.declared.errors.OpenError.{OpenError}
-use Rattle.unit_start.specs.declared.errors.OpenError.TheVariants as an_open
 use Rattle.relayed_unit.specs.LifeNow.{DescribesLife}
 use Rattle.relayed_unit.specs.Relayed.{Relayed, Turns, list_of, requests_of, release_refusal, prepare_refusal, prepare_failed, wants_gate, IsFlushed, IsLeftBy, PoweredUp, WantsNothing}
 use Rattle.relayed_unit.specs.declared.errors.PrepareError.{PrepareError}
 use Rattle.relayed_unit.specs.declared.life_now.LifeNow.{LifeNow}
 use Rattle.ring.specs.Account.{Account}
 use Rattle.unit_calls.specs.Outputs.{description_of, last_of, AreHanded}
-use Rattle.unit_calls.specs.Requests.{IfElse}
+use Rattle.unit_calls.specs.Requests.{IfElse, Wants}
 use Rattle.unit_calls.specs.Statuses.{of_open, of_accept, of_prepare, of_release}
 use Rattle.unit_calls.specs.ColdNumbers.{cold_by}
 use Rattle.unit_calls.specs.declared.outputs.EtcsOutput.{EtcsOutput}
@@ -109,15 +108,19 @@ abbrev pub Prepares : Opened → Opened → Status → Type 0
 Prepares before after status = (reported : Result ⊤ PrepareError) × (status ≡ of_prepare reported)
     × IsPrepared before.unit after.unit reported × (after.last ≡ before.last)
 
--- so many requests are said to be done: WrongCount exactly where there are fewer, or more were said before, and then
+-- so many requests are said to be done: NoSuchRequest exactly where there are fewer, or more were said before, and then
 -- nothing changes
 abbrev pub Says : ℕ → Opened → Opened → Status → Type 0
 Says count before after status = (taken : Bool)
     × ((taken ≡ true) ↔ ((count ≤ requests_of before.unit.moored) × (before.unit.done ≤ count)))
-    × (status ≡ (if taken then a_status.Done else a_status.WrongCount))
+    × (status ≡ (if taken then a_status.Done else a_status.NoSuchRequest))
     × (after.unit.done ≡ (if taken then count else before.unit.done))
     × (after.unit.outputs ≡ before.unit.outputs) × (after.unit.moored ≡ before.unit.moored)
     × (after.unit.failed ≡ before.unit.failed) × (after.last ≡ before.last)
+
+-- one more request is said to be done
+abbrev pub SaysNext : Opened → Opened → Status → Type 0
+SaysNext before after status = Says (before.unit.done + 1) before after status
 
 -- the medium failed
 abbrev pub Fails : Opened → Opened → Status → Type 0
@@ -173,6 +176,11 @@ pub record HandsAll (before after : Opened) (h : Handing) : Type 0 where
 abbrev pub Releases : Opened → Opened → Handing → Type 0
 Releases before after h = IfElse (nat_lt (length h.places) most_pending) (HandsNothing a_status.NoRoom before after h)
     (MatchOption (release_refusal before.unit) (HandsAll before after h) (λ e. HandsNothing (of_release e) before after h))
+
+-- the same of a unit that hasn't failed: RequestsOwed where a sector has to be read first
+abbrev pub ReleasesAfterReads : Opened → Opened → Handing → Type 0
+ReleasesAfterReads before after h = (wanted : Option ℕ) × Wants before wanted
+    × IfElse (is_some wanted && not before.unit.failed) (HandsNothing a_status.RequestsOwed before after h) (Releases before after h)
 
 -- how far a unit is, as C sees it, where this is known of its life
 abbrev pub state_of : Opened → LifeNow → EtcsState

@@ -6,6 +6,10 @@
 -- head of `include/etcs_unit.h` says that the caller owes. He hands in what he read from his medium, a sector as it is
 -- there when he hands it in, carries out the requests in their order, as they are reported, says of none that it is
 -- done before it is, and nothing else writes there.
+
+-- A call is one of the steps below, or two of them: `etcs_unit_provide` of an open unit is Providing, and where a sector was
+-- wanted Preparing after it (`ProvidesOn`). `etcs_unit_begin` and `etcs_unit_provide` of a power-up are Finishing where
+-- they leave a unit (`GoesOn`: `IsGoneOn`, `IsLeftOn`), else Asking.
 use Rattle.std.specs.Prelude.{◌≡◌, ◌⊎◌, ℕ, ◌+◌, ◌≤◌, List, [], ◌∷◌, ◌++◌, length, map, take, Option, Some, None, MatchOption, Ok}
 use Rattle.disk.specs.State.{Platter, IsImage}
 use Rattle.events.specs.declared.input.Event.{Event}
@@ -41,7 +45,7 @@ pub record Scene : Type 0 where
 pub data Happening : Type 0 where
   -- `etcs_unit_open` with these bytes, word and number of the interface
   Opening : List ℕ → ℕ → ℕ → Happening
-  -- `etcs_opening_go_on` that leads to a unit, with this word, over a medium of these bytes
+  -- a power-up that leads to a unit, with this cold movement value, over a medium of these bytes
   Finishing : List ℕ → Cold → Happening
   -- a call that takes an input; None stands for numbers outside their limits
   Taking : Option Input → Happening
@@ -49,16 +53,16 @@ pub data Happening : Type 0 where
   Preparing : Happening
   -- `etcs_unit_provide` of this sector with these bytes
   Providing : ℕ → List ℕ → Happening
-  -- the next request is carried out, as `etcs_unit_request` reported it
+  -- the next write or sync is carried out, as `etcs_unit_request` reports it once those before it are said to be done
   Carrying : Description → Happening
-  -- `etcs_unit_done` with this count
+  -- `etcs_unit_done`, of so many: one more than before (`SaysNext`)
   Saying : ℕ → Happening
   -- `etcs_unit_fail`
   Failing : Happening
-  -- `etcs_unit_release` into these places
+  -- `etcs_unit_release` into these places, but where it is refused since a sector has to be read (`ReleasesAfterReads`)
   Releasing : Handing → Happening
-  -- `etcs_unit_request`, `etcs_unit_wanted`, `etcs_unit_state`, and the calls that need no unit, also those on a
-  -- power-up in steps but its last
+  -- `etcs_unit_request`, `etcs_unit_state`, a release that is refused since a sector has to be read, the calls that need no
+  -- unit, and those on a power-up that is under way but its last
   Asking : Happening
   -- `etcs_unit_close`
   Closing : Happening

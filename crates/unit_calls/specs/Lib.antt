@@ -17,6 +17,7 @@ pub mod PowerUps
 pub mod Requests
 pub mod Sectors
 pub mod Statuses
+pub mod Units
 pub mod Versions
 pub mod Whys
 pub mod ColdNumbers

@@ -6,8 +6,9 @@ use Rattle.c_numbers.specs.Numbers.{this_abi}
 use Rattle.mode_table.specs.declared.statuses.Cold.{Cold}
 use Rattle.request_disk.specs.Requesting.{knows, with_sector}
 use Rattle.relayed_unit.specs.Openings.{Opening, initial, still_needed, IsGoing, IsWanted}
-use Rattle.unit_calls.specs.Requests.{IfElse}
+use Rattle.unit_calls.specs.Requests.{IfElse, read_of}
 use Rattle.unit_calls.specs.ColdNumbers.{cold_by}
+use Rattle.unit_calls.specs.declared.call_values.EtcsRequest.{EtcsRequest}
 use Rattle.unit_calls.specs.declared.status.Status.{Status}
 use Rattle.unit_calls.specs.declared.status.Status.TheVariants as a_status
 
@@ -49,10 +50,10 @@ closing (Some opening) = a_status.Done
 
 -- ---- sectors
 
--- the sector that it wants is reported; NoneWanted where it wants none, and then nothing is written
-abbrev pub DescribesWanted : Opening → ℕ → ℕ → Status → Type 0
-DescribesWanted opening old new status = MatchOption opening.disk.wanted
-    ((status ≡ a_status.NoneWanted) × (new ≡ old)) (λ sector. (status ≡ a_status.Done) × (new ≡ sector))
+-- to read the sector that it wants is reported; NoSuchRequest where it wants none, and then nothing is written
+abbrev pub DescribesRead : Opening → EtcsRequest → EtcsRequest → Status → Type 0
+DescribesRead opening old new status = MatchOption opening.disk.wanted
+    ((status ≡ a_status.NoSuchRequest) × (new ≡ old)) (λ sector. (status ≡ a_status.Done) × (new ≡ read_of sector))
 
 -- what `UnitOpening::provide` promises where it takes a sector
 pub record IsProvided (sector : ℕ) (bytes : List ℕ) (before after : Opening) : Type 0 where

@@ -1,5 +1,5 @@
 -- What C gets of a request (this project's profile). Requests are counted from the first of the list.
-use Rattle.std.specs.Prelude.{◌≡◌, ℕ, ◌+◌, ◌*◌, ◌<◌, ◌≤◌, nat_lt, Bool, true, false, List, [], ◌∷◌, ◌++◌, length, take, drop, Option, Some, None}
+use Rattle.std.specs.Prelude.{◌≡◌, ℕ, ◌+◌, ◌*◌, ◌<◌, ◌≤◌, nat_lt, Bool, true, false, List, [], ◌∷◌, ◌++◌, length, take, drop, Option, Some, None, IfSome, MatchOption}
 use Rattle.disk.specs.Record.{IsWithin}
 use Rattle.disk.specs.declared.record.Call.{Call}
 use Rattle.disk.specs.declared.record.Call.TheVariants.{Quiet, Synced, Written, Torn}
@@ -37,6 +37,14 @@ Writes sector sectors content t =
 abbrev pub Syncs : Description → Type 0
 Syncs t = (t.status ≡ a_status.Done) × (t.reported ≡ record { sector = 0; sectors = 0; kind = 2 }) × (t.bytes ≡ t.caller_buffer)
 
+-- a sector is to be read
+abbrev pub read_of : ℕ → EtcsRequest
+read_of sector = record { sector = sector; sectors = 1; kind = 3 }
+
+-- this sector is to be read
+abbrev pub Reads : ℕ → Description → Type 0
+Reads sector t = (t.status ≡ a_status.Done) × (t.reported ≡ read_of sector) × (t.bytes ≡ t.caller_buffer)
+
 -- the request at this place of a list; None after the last one
 abbrev pub IsAt : ℕ → List Call → Option Call → Type 0
 IsAt index requests None = length requests ≤ index
@@ -55,7 +63,17 @@ abbrev pub IsWhole : Opened → Option Call → Type 0
 IsWhole opened found = (request : Call) → found ≡ Some request
     → IsWithin (sectors_in opened.unit.moored) (length (written_of opened.unit.moored)) request
 
--- a request of the unit's list is reported
+-- a request of the unit's list is reported, by its place in that
 abbrev pub DescribesRequest : ℕ → Opened → Description → Type 0
 DescribesRequest index opened t = (found : Option Call) × IsAt index (list_of opened.unit.moored) found × IsWhole opened found
     × IsReportedAs (written_of opened.unit.moored) found t
+
+-- the sector that a unit wants, None where it wants none
+abbrev pub Wants : Opened → Option ℕ → Type 0
+Wants opened wanted = IfSome opened.unit.moored (λ current. wanted ≡ current.reading.disk.wanted)
+
+-- what is to be done next is reported: to read the sector that is wanted, or else the first request of the list that isn't
+-- done
+abbrev pub DescribesNext : Opened → Description → Type 0
+DescribesNext opened t = (wanted : Option ℕ) × Wants opened wanted
+    × MatchOption wanted (DescribesRequest opened.unit.done opened t) (λ sector. Reads sector t)

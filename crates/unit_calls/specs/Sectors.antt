@@ -1,18 +1,15 @@
--- Sectors of a medium that isn't copied (this project's profile): which one is wanted, and what handing it in leaves.
+-- What handing in a sector of a medium that isn't copied leaves (this project's profile).
 -- Sectors have 512 bytes and are numbered from 0.
-use Rattle.std.specs.Prelude.{◌≡◌, ℕ, ◌==◌, ◌&&◌, nat_lt, Bool, true, List, length, Option, IfSome, MatchOption}
+use Rattle.std.specs.Prelude.{◌≡◌, ℕ, ◌==◌, ◌&&◌, nat_lt, Bool, true, List, length, Option, IfSome, is_some}
 use Rattle.disk.specs.State.{contents_of}
 use Rattle.request_disk.specs.Requesting.{request_state, knows, with_sector}
 use Rattle.relayed_unit.specs.Relayed.{Turns, sectors_in}
-use Rattle.unit_calls.specs.Requests.{IfElse}
+use Rattle.unit_calls.specs.Handles.{Prepares}
+use Rattle.unit_calls.specs.Requests.{IfElse, Wants}
+use Rattle.unit_calls.specs.Statuses.{is_done}
 use Rattle.unit_calls.specs.declared.handle.Opened.{Opened}
 use Rattle.unit_calls.specs.declared.status.Status.{Status}
 use Rattle.unit_calls.specs.declared.status.Status.TheVariants as a_status
-
--- the sector that a unit wants is reported; NoneWanted where it wants none, and then nothing is written
-abbrev pub DescribesWanted : Opened → ℕ → ℕ → Status → Type 0
-DescribesWanted opened old new status = (wanted : Option ℕ) × IfSome opened.unit.moored (λ current. wanted ≡ current.reading.disk.wanted)
-    × MatchOption wanted ((status ≡ a_status.NoneWanted) × (new ≡ old)) (λ sector. (status ≡ a_status.Done) × (new ≡ sector))
 
 -- whether these are the bytes of a sector that the medium has
 abbrev pub is_sector_of : Opened → ℕ → List ℕ → Bool
@@ -37,3 +34,9 @@ abbrev pub Provides : ℕ → List ℕ → Opened → Opened → Status → Type
 Provides sector bytes before after status = IfElse (is_sector_of before sector bytes)
     ((status ≡ a_status.Done) × IsProvided sector bytes before after)
     ((status ≡ a_status.OutOfRange) × (after ≡ before))
+
+-- a sector is handed in, and where one was wanted the flush goes on, whose status is reported then
+abbrev pub ProvidesOn : ℕ → List ℕ → Opened → Opened → Status → Type 0
+ProvidesOn sector bytes before after status = (wanted : Option ℕ) × Wants before wanted
+    × (given : Opened) × (provided : Status) × Provides sector bytes before given provided
+    × IfElse (is_some wanted && is_done provided) (Prepares given after status) ((status ≡ provided) × (after ≡ given))

@@ -25,11 +25,8 @@ status_number a_status.InputFailed = 13
 status_number a_status.Failed = 21
 status_number a_status.RequestsOwed = 22
 status_number a_status.WornOut = 23
-status_number a_status.SectorWanted = 24
-status_number a_status.NoneWanted = 25
 status_number a_status.BadSlots = 41
 status_number a_status.NotReleased = 247
-status_number a_status.WrongCount = 248
 status_number a_status.NoSuchRequest = 249
 status_number a_status.NotOpen = 250
 status_number a_status.IsOpen = 251
@@ -55,12 +52,13 @@ of_accept (Err an_accept.PendingFull) = a_status.PendingFull
 of_accept (Err an_accept.ClockBack) = a_status.ClockBack
 of_accept (Err an_accept.NoMemory) = a_status.NoMemory
 
+-- Done also where a sector has to be read first, which is the next request then
 abbrev pub of_prepare : {T : Type 0} → Result T PrepareError → Status
 of_prepare (Ok x) = a_status.Done
 of_prepare (Err a_prepare.Failed) = a_status.Failed
 of_prepare (Err a_prepare.RequestsOwed) = a_status.RequestsOwed
 of_prepare (Err a_prepare.WornOut) = a_status.WornOut
-of_prepare (Err a_prepare.SectorWanted) = a_status.SectorWanted
+of_prepare (Err a_prepare.SectorWanted) = a_status.Done
 
 abbrev pub of_release : ReleaseError → Status
 of_release a_release.Failed = a_status.Failed

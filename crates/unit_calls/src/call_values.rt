@@ -1,6 +1,6 @@
 //! Requests as C gets them, and the cold movement values that it hands in.
 ghost use Rattle.std.specs.Prelude.{◌≡◌};
-ghost use Rattle.unit_calls.specs.Requests.{Writes};
+ghost use Rattle.unit_calls.specs.Requests.{Writes, read_of};
 ghost use Rattle.unit_calls.specs.ColdNumbers.{cold_by};
 
 use crate::status::Status;
@@ -10,11 +10,11 @@ use mode_table::Cold;
 #[repr(C)]
 #[derive(Clone, Copy)]
 pub struct EtcsRequest {
-    /// Of a write: its first sector; else 0.
+    /// Of a write: its first sector; of a read: the sector; else 0.
     pub sector: u64,
-    /// Of a write: how many sectors; else 0.
+    /// Of a write: how many sectors; of a read: 1; else 0.
     pub sectors: u64,
-    /// 1 write, 2 sync.
+    /// 1 write, 2 sync, 3 read.
     pub kind: u64,
 }
 
@@ -49,6 +49,17 @@ pub fn sync() -> EtcsRequest
         sector: 0,
         sectors: 0,
         kind: 2,
+    }
+}
+
+/// To read this sector.
+pub fn read_of(sector: u64) -> EtcsRequest
+    ensures { result ≡ read_of sector }
+{
+    EtcsRequest {
+        sector,
+        sectors: 1,
+        kind: 3,
     }
 }
 

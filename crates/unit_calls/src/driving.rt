@@ -4,7 +4,7 @@ ghost use Rattle.unit_calls.specs.Drivers.{AsksUnitDriver};
 ghost use Rattle.unit_calls.specs.Handles.{OnHandleInto};
 
 use crate::driver_values::{EtcsUnitDriver, driver_reported};
-use crate::handle::{EtcsUnit, Opened};
+use crate::handle::{Opened, UnitHandle};
 use crate::status::Status;
 
 // Reports it of this unit, where its newest output is released.
@@ -22,7 +22,7 @@ fn describe(opened: &Opened, driver: &mut EtcsUnitDriver) -> Status
 
 /// Reports what the driver entered, and which actions of the driver would be accepted as the next event: NotReleased while
 /// an event is pending or requests aren't released, and then nothing is written. Nothing changes.
-pub fn unit_driver_call(unit: &mut EtcsUnit, driver: &mut EtcsUnitDriver) -> Status
+pub fn unit_driver_call(unit: &mut UnitHandle, driver: &mut EtcsUnitDriver) -> Status
     ensures { OnHandleInto (driver.new ≡ driver.old) unit.old.raw.value unit.new.raw.value result
         (λ before after reported. (after ≡ before) × AsksUnitDriver before driver.old driver.new reported) }
 {

@@ -9,7 +9,7 @@ ghost use Rattle.units.specs.Limits.{IsMovement, IsMph, IsMs};
 ghost use Rattle.unit_calls.specs.Handles.{OnHandle, Takes};
 ghost use Rattle.unit_calls.specs.Inputs.{Describes, ActsAs, AreTrainData, train_of, action_by};
 
-use crate::handle::{EtcsUnit, Opened};
+use crate::handle::{Opened, UnitHandle};
 use crate::inputs::{self, EtcsTrainData};
 use crate::status::{Status, of_accept};
 use events::Input;
@@ -23,7 +23,7 @@ fn accept(opened: &mut Opened, alloc: Global, input: Input) -> Status
 }
 
 // The same through a handle.
-fn hand_in(alloc: Global, handle: &mut EtcsUnit, input: Input) -> Status
+fn hand_in(alloc: Global, handle: &mut UnitHandle, input: Input) -> Status
     ensures { OnHandle handle.old.raw.value handle.new.raw.value result (Takes (Some input)) }
 {
     if !handle.has_unit() {
@@ -33,7 +33,7 @@ fn hand_in(alloc: Global, handle: &mut EtcsUnit, input: Input) -> Status
 }
 
 // Refuses what is no input.
-fn refuse(handle: &mut EtcsUnit) -> Status
+fn refuse(handle: &mut UnitHandle) -> Status
     ensures { OnHandle handle.old.raw.value handle.new.raw.value result (Takes None) }
 {
     if handle.has_unit() {
@@ -45,7 +45,7 @@ fn refuse(handle: &mut EtcsUnit) -> Status
 
 // Hands an input in; None is one outside its limits. What both do stands in functions of their own, so that an accept
 // is compiled without what a refusal tests.
-fn take(alloc: Global, handle: &mut EtcsUnit, input: Option<Input>) -> Status
+fn take(alloc: Global, handle: &mut UnitHandle, input: Option<Input>) -> Status
     ensures { OnHandle handle.old.raw.value handle.new.raw.value result (Takes input) }
 {
     match input {
@@ -55,7 +55,7 @@ fn take(alloc: Global, handle: &mut EtcsUnit, input: Option<Input>) -> Status
 }
 
 /// Takes the bytes that a balise sent.
-pub fn telegram_call(alloc: Global, unit: &mut EtcsUnit, bytes: &[u8]) -> Status
+pub fn telegram_call(alloc: Global, unit: &mut UnitHandle, bytes: &[u8]) -> Status
     ensures { (reported : Option an_input) × Describes (AreOfATelegram bytes.now) (Telegram bytes.now) reported
         × OnHandle unit.old.raw.value unit.new.raw.value result (Takes reported) }
 {
@@ -63,7 +63,7 @@ pub fn telegram_call(alloc: Global, unit: &mut EtcsUnit, bytes: &[u8]) -> Status
 }
 
 /// Takes a reading of the odometer, in centimetres and metres per hour.
-pub fn odometer_call(alloc: Global, unit: &mut EtcsUnit, movement: i64, speed: u32) -> Status
+pub fn odometer_call(alloc: Global, unit: &mut UnitHandle, movement: i64, speed: u32) -> Status
     ensures { (reported : Option an_input) × Describes (IsMovement movement × IsMph speed) (Odometer (record { movement = movement; speed = speed })) reported
         × OnHandle unit.old.raw.value unit.new.raw.value result (Takes reported) }
 {
@@ -71,7 +71,7 @@ pub fn odometer_call(alloc: Global, unit: &mut EtcsUnit, movement: i64, speed: u
 }
 
 /// Takes a moment, in milliseconds.
-pub fn clock_call(alloc: Global, unit: &mut EtcsUnit, moment: u64) -> Status
+pub fn clock_call(alloc: Global, unit: &mut UnitHandle, moment: u64) -> Status
     ensures { (reported : Option an_input) × Describes (IsMs moment) (Clock moment) reported
         × OnHandle unit.old.raw.value unit.new.raw.value result (Takes reported) }
 {
@@ -79,7 +79,7 @@ pub fn clock_call(alloc: Global, unit: &mut EtcsUnit, moment: u64) -> Status
 }
 
 /// Takes an action of the driver, 1 to 15.
-pub fn action_call(alloc: Global, unit: &mut EtcsUnit, action: u32) -> Status
+pub fn action_call(alloc: Global, unit: &mut UnitHandle, action: u32) -> Status
     ensures { (reported : Option an_input) × ActsAs (action_by action) reported
         × OnHandle unit.old.raw.value unit.new.raw.value result (Takes reported) }
 {
@@ -87,7 +87,7 @@ pub fn action_call(alloc: Global, unit: &mut EtcsUnit, action: u32) -> Status
 }
 
 /// Takes an identity that the driver enters.
-pub fn identity_call(alloc: Global, unit: &mut EtcsUnit, bytes: &[u8]) -> Status
+pub fn identity_call(alloc: Global, unit: &mut UnitHandle, bytes: &[u8]) -> Status
     ensures { (reported : Option an_input) × Describes (IsIdentity bytes.now) (Driver (EnterIdentity bytes.now)) reported
         × OnHandle unit.old.raw.value unit.new.raw.value result (Takes reported) }
 {
@@ -95,7 +95,7 @@ pub fn identity_call(alloc: Global, unit: &mut EtcsUnit, bytes: &[u8]) -> Status
 }
 
 /// Takes a running number that the driver enters.
-pub fn running_number_call(alloc: Global, unit: &mut EtcsUnit, number: u32) -> Status
+pub fn running_number_call(alloc: Global, unit: &mut UnitHandle, number: u32) -> Status
     ensures { (reported : Option an_input) × Describes (IsRunningNumber number) (Driver (EnterRunningNumber number)) reported
         × OnHandle unit.old.raw.value unit.new.raw.value result (Takes reported) }
 {
@@ -103,7 +103,7 @@ pub fn running_number_call(alloc: Global, unit: &mut EtcsUnit, number: u32) -> S
 }
 
 /// Takes train data that the driver enters.
-pub fn train_data_call(alloc: Global, unit: &mut EtcsUnit, train: &EtcsTrainData) -> Status
+pub fn train_data_call(alloc: Global, unit: &mut UnitHandle, train: &EtcsTrainData) -> Status
     ensures { (reported : Option an_input) × Describes (AreTrainData train.now) (Driver (EnterTrainData (train_of train.now))) reported
         × OnHandle unit.old.raw.value unit.new.raw.value result (Takes reported) }
 {

@@ -1,11 +1,11 @@
-//! Going on with a power-up in steps.
+//! Going on with a power-up.
 ghost use Rattle.std.specs.Prelude.{◌≡◌, None};
 ghost use Rattle.unit_calls.specs.Goings.{GoesOn, IsLeftOn};
 ghost use Rattle.unit_calls.specs.Places.{under_way};
 
-use crate::handle::EtcsUnit;
+use crate::handle::UnitHandle;
 use crate::opening::put_unit;
-use crate::place::{EtcsOpening, Place, handle_of, taken};
+use crate::place::{OpeningHandle, Place, handle_of, taken};
 use crate::status::Status;
 use onboard::OpenError;
 use relayed_unit::Going;
@@ -14,9 +14,9 @@ use std::alloc::Global;
 // Puts what came of going on where it belongs: the power-up back into its place, or the unit into its handle.
 fn leave(
     alloc: Global,
-    opening: &mut EtcsOpening,
+    opening: &mut OpeningHandle,
     place: Box<Place>,
-    unit: &mut EtcsUnit,
+    unit: &mut UnitHandle,
     reported: Result<Going, OpenError>,
 ) -> Status
     requires opening { under_way opening.old.raw.value ≡ None }
@@ -26,16 +26,17 @@ fn leave(
     match reported {
         Ok(Going::Wants(next)) => {
             *opening = handle_of(next, place);
-            Status::SectorWanted
+            Status::Done
         }
         Ok(Going::Open(powered_up)) => put_unit(alloc, unit, Ok(powered_up)),
         Err(error) => put_unit(alloc, unit, Err(error)),
     }
 }
 
-/// Goes on as far as sectors are known. SectorWanted where one has to be handed in first; else the power-up is ended, and
-/// the unit is open, or the status is that of a refusal. Nothing changes where a unit is open there already.
-pub fn go_on_call(alloc: Global, opening: &mut EtcsOpening, unit: &mut EtcsUnit) -> Status
+/// Goes on as far as sectors are known. Done where one has to be read first, and the power-up is under way then, or where
+/// it is ended and the unit is open; else the status is that of the refusal, and neither is there. Nothing changes where a
+/// unit is open there already.
+pub fn go_on_call(alloc: Global, opening: &mut OpeningHandle, unit: &mut UnitHandle) -> Status
     ensures { GoesOn (under_way opening.old.raw.value) unit.old.raw.value
         (under_way opening.new.raw.value) unit.new.raw.value result }
 {

@@ -20,7 +20,7 @@ pub struct Opened {
 /// A unit, as C holds it. C hands in one that is all zeros, or that an earlier call left.
 #[repr(C)]
 #[derive(Drop)]
-pub struct EtcsUnit {
+pub struct UnitHandle {
     /// Where the unit is.
     pub raw: Raw,
     // 1 where a unit is open.
@@ -29,7 +29,7 @@ pub struct EtcsUnit {
     ghost closed: { (is_open ≡ 1 → ⊥) → raw.value ≡ None },
 }
 
-impl EtcsUnit {
+impl UnitHandle {
     /// Whether a unit is open.
     pub fn has_unit(&self) -> bool
         ensures { result ≡ is_some self.now.raw.value }
@@ -39,29 +39,29 @@ impl EtcsUnit {
 }
 
 // A handle with no unit.
-fn nothing(alloc: Global) -> EtcsUnit
+fn nothing(alloc: Global) -> UnitHandle
     ensures { result.raw.value ≡ None }
 {
     let nowhere = std::ptr::null_mut();
     let raw = Raw::of(Held::none(nowhere, alloc));
-    EtcsUnit { raw, is_open: 0 }
+    UnitHandle { raw, is_open: 0 }
 }
 
 /// A handle with this unit.
-pub fn handle_of(opened: Box<Opened>) -> EtcsUnit
+pub fn handle_of(opened: Box<Opened>) -> UnitHandle
     ensures { result.raw.value ≡ Some opened.value }
 {
     let raw = Raw::of(Held::of(opened));
-    EtcsUnit { raw, is_open: 1 }
+    UnitHandle { raw, is_open: 1 }
 }
 
 /// Takes the unit out.
-pub fn taken(alloc: Global, handle: &mut EtcsUnit) -> Option<Box<Opened>>
+pub fn taken(alloc: Global, handle: &mut UnitHandle) -> Option<Box<Opened>>
     ensures closed { handle.new.raw.value ≡ None }
     ensures some { IfSome result (λ b. handle.old.raw.value ≡ Some b.value) }
     ensures none { result ≡ None → handle.old.raw.value ≡ None }
 {
-    let EtcsUnit { raw, is_open } = mem::replace(handle, nothing(alloc));
+    let UnitHandle { raw, is_open } = mem::replace(handle, nothing(alloc));
     if is_open == 1 {
         Some(raw.into_held(alloc).into_box())
     } else {

@@ -20,7 +20,7 @@ pub fn on_medium_is_held()
     ensures { OnMediumIsHeld }
 {}
 
-/// A law: a power-up in steps ends. Where the caller hands in each sector that it wants, and no other one, it wants the
+/// A law: a power-up ends. Where the caller hands in each sector that is to be read, and no other one, it asks for the
 /// first sector, two for each slot, and seven more at most, whatever the medium holds.
 pub fn power_up_ends()
     ensures { WantsFew }

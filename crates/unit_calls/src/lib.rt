@@ -1,4 +1,4 @@
-//! The unit, and a power-up in steps, as C programs call them: the calls after the exports of `etcs_unit`, with their
+//! The unit, from its power-up on, as C programs call it: the calls after the exports of `etcs_unit`, with their
 //! contracts.
 #![tactic(auto)]
 
@@ -23,6 +23,7 @@ mod relaying;
 mod sectors;
 mod starting;
 mod status;
+mod unit;
 mod version;
 mod why;
 
@@ -35,17 +36,17 @@ pub use events_in::{
 };
 pub use explaining::unit_why_call;
 pub use formatting::format_request_call;
-pub use going::go_on_call;
-pub use handle::{EtcsUnit, Opened};
+pub use handle::{Opened, UnitHandle};
 pub use inputs::EtcsTrainData;
 pub use laws::{format_empties, handed_out_is_on_medium, on_medium_is_held, power_up_ends};
-pub use opening::{close_call, open_call, put_unit};
+pub use opening::put_unit;
 pub use outputs::{EtcsOutput, EtcsState};
-pub use place::{EtcsOpening, Place};
-pub use place_sectors::{opening_provide_call, opening_wanted_call};
-pub use relaying::{done_call, fail_call, prepare_call, release_call, request_call, state_call};
-pub use sectors::{provide_call, wanted_call};
-pub use starting::{begin_call, opening_close_call};
+pub use place::{OpeningHandle, Place};
+pub use relaying::{done_call, prepare_call, release_call, state_call};
 pub use status::Status;
+pub use unit::{
+    EtcsUnit, unit_begin_call, unit_close_call, unit_fail_call, unit_open_call, unit_provide_call,
+    unit_request_call,
+};
 pub use version::version_call;
 pub use why::EtcsUnitWhy;

@@ -3,7 +3,7 @@ ghost use Rattle.std.specs.Prelude.{◌≡◌, None};
 ghost use Rattle.unit_calls.specs.Handles.{IsLeft, OpensFrom, PowersUpInto, closing};
 
 use crate::call_values::cold_of_number;
-use crate::handle::{EtcsUnit, Opened, handle_of, taken};
+use crate::handle::{Opened, UnitHandle, handle_of, taken};
 use crate::status::{Status, of_open};
 use c_numbers::ABI;
 use mode_table::Cold;
@@ -12,10 +12,10 @@ use relayed_unit::RelayedUnit;
 use std::alloc::Global;
 
 /// Puts a unit that was powered up into a handle that has none; what refused the power-up is answered by its status.
-/// OpenNoMemory where there is no memory for it there. The caller owes that the handle has none (`EtcsUnit::has_unit`).
+/// OpenNoMemory where there is no memory for it there. The caller owes that the handle has none (`UnitHandle::has_unit`).
 pub fn put_unit(
     alloc: Global,
-    handle: &mut EtcsUnit,
+    handle: &mut UnitHandle,
     reported: Result<RelayedUnit, OpenError>,
 ) -> Status
     requires { handle.old.raw.value ≡ None }
@@ -36,7 +36,7 @@ pub fn put_unit(
 }
 
 // Powers up into a handle that has no unit.
-fn power_up(alloc: Global, handle: &mut EtcsUnit, image: &[u8], cold: Option<Cold>) -> Status
+fn power_up(alloc: Global, handle: &mut UnitHandle, image: &[u8], cold: Option<Cold>) -> Status
     requires { handle.old.raw.value ≡ None }
     ensures { PowersUpInto image.now cold handle.new.raw.value result }
 {
@@ -48,7 +48,7 @@ fn power_up(alloc: Global, handle: &mut EtcsUnit, image: &[u8], cold: Option<Col
 }
 
 /// Powers up on these sectors.
-pub fn open_call(alloc: Global, unit: &mut EtcsUnit, image: &[u8], cold: u32, abi: u32) -> Status
+pub fn open_call(alloc: Global, unit: &mut UnitHandle, image: &[u8], cold: u32, abi: u32) -> Status
     ensures { OpensFrom image.now cold abi unit.old.raw.value unit.new.raw.value result }
 {
     if unit.has_unit() {
@@ -61,7 +61,7 @@ pub fn open_call(alloc: Global, unit: &mut EtcsUnit, image: &[u8], cold: u32, ab
 }
 
 /// Closes it.
-pub fn close_call(alloc: Global, unit: &mut EtcsUnit) -> Status
+pub fn close_call(alloc: Global, unit: &mut UnitHandle) -> Status
     ensures closed { unit.new.raw.value ≡ None }
     ensures reported { result ≡ closing unit.old.raw.value }
 {

@@ -18,7 +18,7 @@ pub struct Place {
 /// A power-up that is under way, as C holds it. C hands in one that is all zeros, or that an earlier call left.
 #[repr(C)]
 #[derive(Drop)]
-pub struct EtcsOpening {
+pub struct OpeningHandle {
     /// Where the power-up is.
     pub raw: RawPlace,
     // 1 where one is under way.
@@ -27,7 +27,7 @@ pub struct EtcsOpening {
     ghost closed: { (is_open ≡ 1 → ⊥) → raw.value ≡ None },
 }
 
-impl EtcsOpening {
+impl OpeningHandle {
     /// Whether a power-up is under way.
     pub fn is_under_way(&self) -> bool
         ensures { result ≡ is_some (under_way self.now.raw.value) }
@@ -37,31 +37,31 @@ impl EtcsOpening {
 }
 
 // A handle with no power-up.
-fn nothing(alloc: Global) -> EtcsOpening
+fn nothing(alloc: Global) -> OpeningHandle
     ensures { result.raw.value ≡ None }
 {
     let nowhere = std::ptr::null_mut();
     let raw = RawPlace::of(Held::none(nowhere, alloc));
-    EtcsOpening { raw, is_open: 0 }
+    OpeningHandle { raw, is_open: 0 }
 }
 
 /// A handle with this power-up, in its place.
-pub fn handle_of(opening: UnitOpening, place: Box<Place>) -> EtcsOpening
+pub fn handle_of(opening: UnitOpening, place: Box<Place>) -> OpeningHandle
     ensures { under_way result.raw.value ≡ Some opening }
 {
     let mut place = place;
     place.opening = Some(opening);
     let raw = RawPlace::of(Held::of(place));
-    EtcsOpening { raw, is_open: 1 }
+    OpeningHandle { raw, is_open: 1 }
 }
 
 /// Takes the power-up out, with its place.
-pub fn taken(alloc: Global, handle: &mut EtcsOpening) -> Option<(UnitOpening, Box<Place>)>
+pub fn taken(alloc: Global, handle: &mut OpeningHandle) -> Option<(UnitOpening, Box<Place>)>
     ensures closed { handle.new.raw.value ≡ None }
     ensures some { IfSome result (λ found. under_way handle.old.raw.value ≡ Some found.0) }
     ensures none { result ≡ None → under_way handle.old.raw.value ≡ None }
 {
-    let EtcsOpening { raw, is_open } = mem::replace(handle, nothing(alloc));
+    let OpeningHandle { raw, is_open } = mem::replace(handle, nothing(alloc));
     if is_open != 1 {
         return None;
     }

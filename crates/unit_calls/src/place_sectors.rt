@@ -1,36 +1,41 @@
-//! Sectors of a power-up in steps: which one is wanted, and handing it in.
+//! Sectors of a power-up that is under way: which one is to be read, and handing it in.
 ghost use Rattle.std.specs.Prelude.{◌≡◌};
-ghost use Rattle.unit_calls.specs.Openings.{OnPlace, OnPlaceInto, DescribesWanted, Provides};
+ghost use Rattle.unit_calls.specs.Openings.{OnPlace, OnPlaceInto, DescribesRead, Provides};
 ghost use Rattle.unit_calls.specs.Places.{under_way};
 
-use crate::place::{EtcsOpening, handle_of, taken};
+use crate::call_values::{EtcsRequest, read_of};
+use crate::place::{OpeningHandle, handle_of, taken};
 use crate::status::Status;
 use disk::SECTOR_BYTES;
 use relayed_unit::UnitOpening;
 use std::alloc::Global;
 
-// Reports the sector that it wants.
-fn describe_wanted(opening: &UnitOpening, sector: &mut u64) -> Status
-    ensures { DescribesWanted opening.now sector.old sector.new result }
+// Reports the sector that it wants, as one to be read.
+fn describe_read(opening: &UnitOpening, request: &mut EtcsRequest) -> Status
+    ensures { DescribesRead opening.now request.old request.new result }
 {
     match opening.wanted() {
-        Some(wanted) => {
-            *sector = wanted;
+        Some(sector) => {
+            *request = read_of(sector);
             Status::Done
         }
-        None => Status::NoneWanted,
+        None => Status::NoSuchRequest,
     }
 }
 
-/// Reports the sector that is wanted, until it is handed in; NoneWanted where none is, and then nothing is written.
-pub fn opening_wanted_call(alloc: Global, opening: &mut EtcsOpening, sector: &mut u64) -> Status
-    ensures { OnPlaceInto (sector.new ≡ sector.old) (under_way opening.old.raw.value) (under_way opening.new.raw.value) result
-        (λ before after reported. (after ≡ before) × DescribesWanted before sector.old sector.new reported) }
+/// Reports the sector that is wanted, as one to be read; NoSuchRequest where none is, and then nothing is written.
+pub fn opening_request_call(
+    alloc: Global,
+    opening: &mut OpeningHandle,
+    request: &mut EtcsRequest,
+) -> Status
+    ensures { OnPlaceInto (request.new ≡ request.old) (under_way opening.old.raw.value) (under_way opening.new.raw.value) result
+        (λ before after reported. (after ≡ before) × DescribesRead before request.old request.new reported) }
 {
     let Some((unfinished, place)) = taken(alloc, opening) else {
         return Status::NotOpen;
     };
-    let status = describe_wanted(&unfinished, sector);
+    let status = describe_read(&unfinished, request);
     *opening = handle_of(unfinished, place);
     status
 }
@@ -53,7 +58,7 @@ fn provide(opening: &mut UnitOpening, sector: u64, bytes: &[u8]) -> Status
 /// many as a sector has, and then nothing changes.
 pub fn opening_provide_call(
     alloc: Global,
-    opening: &mut EtcsOpening,
+    opening: &mut OpeningHandle,
     sector: u64,
     bytes: &[u8],
 ) -> Status

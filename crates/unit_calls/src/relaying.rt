@@ -1,27 +1,27 @@
 //! From inputs to outputs: preparing, requests, releasing.
 ghost use Rattle.std.specs.Prelude.{◌≡◌};
-ghost use Rattle.unit_calls.specs.Handles.{OnHandle, OnHandleInto, Prepares, Says, Fails, Releases, DescribesState};
+ghost use Rattle.unit_calls.specs.Handles.{OnHandle, OnHandleInto, Prepares, SaysNext, Fails, Releases, ReleasesAfterReads, DescribesState};
 ghost use Rattle.unit_calls.specs.Outputs.{last_of};
 ghost use Rattle.unit_calls.specs.declared.status.Status.TheVariants.{Done};
-ghost use Rattle.unit_calls.specs.Requests.{DescribesRequest};
+ghost use Rattle.unit_calls.specs.Requests.{DescribesRequest, DescribesNext};
 
-use crate::call_values::{EtcsRequest, describe_write, sync};
-use crate::handle::{EtcsUnit, Opened};
+use crate::call_values::{EtcsRequest, describe_write, read_of, sync};
+use crate::handle::{Opened, UnitHandle};
 use crate::outputs::{EtcsOutput, EtcsState, description_of, hand_out};
 use crate::status::{Status, of_prepare, of_release};
 use disk::Call;
 use events::MOST_PENDING;
 use onboard::Released;
 
-// Puts what is pending onto the disk that hands out its requests.
-fn prepare(opened: &mut Opened) -> Status
+/// Flushes what is pending onto the disk that hands out its requests; Done also where a sector has to be read first.
+pub fn prepare(opened: &mut Opened) -> Status
     ensures { Prepares opened.old opened.new result }
 {
     of_prepare(opened.unit.prepare())
 }
 
-/// Puts what is pending onto the disk that hands out its requests.
-pub fn prepare_call(unit: &mut EtcsUnit) -> Status
+/// Flushes what is pending onto the disk that hands out its requests; Done also where a sector has to be read first.
+pub fn prepare_call(unit: &mut UnitHandle) -> Status
     ensures { OnHandle unit.old.raw.value unit.new.raw.value result Prepares }
 {
     if !unit.has_unit() {
@@ -31,11 +31,11 @@ pub fn prepare_call(unit: &mut EtcsUnit) -> Status
 }
 
 // Reports a request of a unit.
-fn describe(opened: &Opened, index: u32, request: &mut EtcsRequest, bytes: &mut [u8]) -> Status
+fn describe(opened: &Opened, index: usize, request: &mut EtcsRequest, bytes: &mut [u8]) -> Status
     ensures { DescribesRequest index opened.now
         (record { request = request.old; reported = request.new; caller_buffer = bytes.old; bytes = bytes.new; status = result }) }
 {
-    match opened.unit.request(index as usize) {
+    match opened.unit.request(index) {
         Some(Call::Written(span)) => {
             describe_write(
                 span.first,
@@ -53,42 +53,55 @@ fn describe(opened: &Opened, index: u32, request: &mut EtcsRequest, bytes: &mut 
     }
 }
 
-/// Reports a request of the list, from 0 on, and the bytes that it writes.
-pub fn request_call(
-    unit: &mut EtcsUnit,
-    index: u32,
-    request: &mut EtcsRequest,
-    bytes: &mut [u8],
-) -> Status
+// Reports what is to be done next: to read the sector that is wanted, or else the first request that isn't done.
+fn describe_next(opened: &Opened, request: &mut EtcsRequest, bytes: &mut [u8]) -> Status
+    ensures { DescribesNext opened.now
+        (record { request = request.old; reported = request.new; caller_buffer = bytes.old; bytes = bytes.new; status = result }) }
+{
+    match opened.unit.wanted() {
+        Some(sector) => {
+            *request = read_of(sector);
+            Status::Done
+        }
+        None => describe(opened, opened.unit.done_count(), request, bytes),
+    }
+}
+
+/// Reports what is to be done next, and the bytes that it writes; NoSuchRequest where nothing is.
+pub fn request_call(unit: &mut UnitHandle, request: &mut EtcsRequest, bytes: &mut [u8]) -> Status
     ensures { OnHandleInto ((request.new ≡ request.old) × (bytes.new ≡ bytes.old))
-        unit.old.raw.value unit.new.raw.value result (λ before after reported. (after ≡ before) × DescribesRequest index before
+        unit.old.raw.value unit.new.raw.value result (λ before after reported. (after ≡ before) × DescribesNext before
         (record { request = request.old; reported = request.new; caller_buffer = bytes.old; bytes = bytes.new; status = reported })) }
 {
     if !unit.has_unit() {
         return Status::NotOpen;
     }
-    describe(unit.raw.as_mut(), index, request, bytes)
+    describe_next(unit.raw.as_mut(), request, bytes)
 }
 
-// Says that so many requests, from the first on, are done.
-fn say(opened: &mut Opened, count: u32) -> Status
-    ensures { Says count opened.old opened.new result }
+// Says that the first request that wasn't done is done.
+fn say(opened: &mut Opened) -> Status
+    ensures { SaysNext opened.old opened.new result }
 {
-    if opened.unit.done(count as usize) {
+    let done = opened.unit.done_count();
+    if done >= opened.unit.count() {
+        return Status::NoSuchRequest;
+    }
+    if opened.unit.done(done + 1) {
         Status::Done
     } else {
-        Status::WrongCount
+        Status::NoSuchRequest
     }
 }
 
-/// Says that so many requests, from the first on, are done.
-pub fn done_call(unit: &mut EtcsUnit, count: u32) -> Status
-    ensures { OnHandle unit.old.raw.value unit.new.raw.value result (Says count) }
+/// Says that the first request that wasn't done is done; NoSuchRequest where all are, and then nothing changes.
+pub fn done_call(unit: &mut UnitHandle) -> Status
+    ensures { OnHandle unit.old.raw.value unit.new.raw.value result SaysNext }
 {
     if !unit.has_unit() {
         return Status::NotOpen;
     }
-    say(unit.raw.as_mut(), count)
+    say(unit.raw.as_mut())
 }
 
 // Says that the medium failed.
@@ -100,7 +113,7 @@ fn fail(opened: &mut Opened) -> Status
 }
 
 /// Says that the medium failed.
-pub fn fail_call(unit: &mut EtcsUnit) -> Status
+pub fn fail_call(unit: &mut UnitHandle) -> Status
     ensures { OnHandle unit.old.raw.value unit.new.raw.value result Fails }
 {
     if !unit.has_unit() {
@@ -138,16 +151,29 @@ fn release(opened: &mut Opened, outputs: &mut [EtcsOutput], count: &mut u32) -> 
     }
 }
 
+// The same, but refused where a sector has to be read first.
+fn release_after_reads(opened: &mut Opened, outputs: &mut [EtcsOutput], count: &mut u32) -> Status
+    ensures { ReleasesAfterReads opened.old opened.new
+        (record { places = outputs.old; handed = outputs.new; counted = count.old; count = count.new; status = result }) }
+{
+    let is_wanted = opened.unit.wanted().is_some();
+    let has_failed = opened.unit.has_failed();
+    if is_wanted && !has_failed {
+        return Status::RequestsOwed;
+    }
+    release(opened, outputs, count)
+}
+
 /// Releases what was held back, all of it, into a buffer for eight; a refusal writes nothing.
-pub fn release_call(unit: &mut EtcsUnit, outputs: &mut [EtcsOutput], count: &mut u32) -> Status
+pub fn release_call(unit: &mut UnitHandle, outputs: &mut [EtcsOutput], count: &mut u32) -> Status
     ensures { OnHandleInto ((outputs.new ≡ outputs.old) × (count.new ≡ count.old))
-        unit.old.raw.value unit.new.raw.value result (λ before after reported. Releases before after
+        unit.old.raw.value unit.new.raw.value result (λ before after reported. ReleasesAfterReads before after
         (record { places = outputs.old; handed = outputs.new; counted = count.old; count = count.new; status = reported })) }
 {
     if !unit.has_unit() {
         return Status::NotOpen;
     }
-    release(unit.raw.as_mut(), outputs, count)
+    release_after_reads(unit.raw.as_mut(), outputs, count)
 }
 
 // How far this unit is.
@@ -177,7 +203,7 @@ fn describe_state(opened: &Opened, state: &mut EtcsState) -> Status
 }
 
 /// Reports how far the unit is.
-pub fn state_call(unit: &mut EtcsUnit, state: &mut EtcsState) -> Status
+pub fn state_call(unit: &mut UnitHandle, state: &mut EtcsState) -> Status
     ensures { OnHandleInto (state.new ≡ state.old) unit.old.raw.value unit.new.raw.value result
         (λ before after reported. (after ≡ before) × (reported ≡ Done) × DescribesState before state.new) }
 {

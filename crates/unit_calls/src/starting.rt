@@ -1,10 +1,10 @@
-//! Beginning and closing a power-up in steps.
+//! Beginning and closing a power-up.
 ghost use Rattle.std.specs.Prelude.{◌≡◌, ◌*◌, ℕ, List, None, length};
 ghost use Rattle.unit_calls.specs.Openings.{BeginsFrom, Begins, closing};
 ghost use Rattle.unit_calls.specs.Places.{under_way};
 
 use crate::call_values::cold_of_number;
-use crate::place::{EtcsOpening, Place, handle_of, taken};
+use crate::place::{OpeningHandle, Place, handle_of, taken};
 use crate::status::Status;
 use c_numbers::ABI;
 use mode_table::Cold;
@@ -12,7 +12,7 @@ use relayed_unit::UnitOpening;
 use std::alloc::Global;
 
 // Begins into a handle that has none.
-fn begin(alloc: Global, handle: &mut EtcsOpening, sectors: u64, cold: Option<Cold>) -> Status
+fn begin(alloc: Global, handle: &mut OpeningHandle, sectors: u64, cold: Option<Cold>) -> Status
     ghost medium: { List ℕ }
     requires size { length medium ≡ 512 * sectors }
     requires none { under_way handle.old.raw.value ≡ None }
@@ -36,7 +36,7 @@ fn begin(alloc: Global, handle: &mut EtcsOpening, sectors: u64, cold: Option<Col
 /// Begins a power-up on a medium of so many sectors, of which none is known.
 pub fn begin_call(
     alloc: Global,
-    opening: &mut EtcsOpening,
+    opening: &mut OpeningHandle,
     sectors: u64,
     cold: u32,
     abi: u32,
@@ -55,7 +55,7 @@ pub fn begin_call(
 }
 
 /// Closes it.
-pub fn opening_close_call(alloc: Global, opening: &mut EtcsOpening) -> Status
+pub fn opening_close_call(alloc: Global, opening: &mut OpeningHandle) -> Status
     ensures closed { under_way opening.new.raw.value ≡ None }
     ensures reported { result ≡ closing (under_way opening.old.raw.value) }
 {

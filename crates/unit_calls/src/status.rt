@@ -1,12 +1,11 @@
 //! What calls answer.
 ghost use Rattle.std.specs.Prelude.{◌≡◌};
-ghost use Rattle.unit_calls.specs.Statuses.{status_number, of_open, of_accept, of_prepare, of_release};
+ghost use Rattle.unit_calls.specs.Statuses.{status_number, is_done, of_open, of_accept, of_prepare, of_release};
 
 use onboard::{AcceptError, OpenError};
 use relayed_unit::{PrepareError, ReleaseError};
 
-/// What a call answers (this project's profile). All but `Done`, `SectorWanted` and `NoneWanted` mean the emergency
-/// brake.
+/// What a call answers (this project's profile). All but `Done` mean the emergency brake.
 #[derive(Clone, Copy)]
 pub enum Status {
     /// It is done.
@@ -35,21 +34,15 @@ pub enum Status {
     RequestsOwed = 22,
     /// There is no block number after 2^40.
     WornOut = 23,
-    /// A sector has to be handed in first. Nothing else changed: call again after it.
-    SectorWanted = 24,
-    /// No sector is wanted.
-    NoneWanted = 25,
     /// The number of slots isn't 2 to 1,048,576.
     BadSlots = 41,
     /// The newest event isn't released yet.
     NotReleased = 247,
-    /// More requests were said to be done than there are, or fewer than before.
-    WrongCount = 248,
-    /// The list ends before it.
+    /// Nothing is to be done on the medium.
     NoSuchRequest = 249,
     /// No unit is open.
     NotOpen = 250,
-    /// One is open already.
+    /// One is open already, or its power-up is under way.
     IsOpen = 251,
     /// A buffer is too small.
     NoRoom = 252,
@@ -65,6 +58,13 @@ impl Status {
         ensures { result ≡ status_number self }
     {
         self as u32
+    }
+
+    /// Whether it was done.
+    pub fn is_done(self) -> bool
+        ensures { result ≡ is_done self }
+    {
+        self.number() == 0
     }
 }
 
@@ -94,7 +94,7 @@ pub fn of_accept(reported: Result<(), AcceptError>) -> Status
     }
 }
 
-/// Of a preparation.
+/// Of a preparation: Done also where a sector has to be read first, which is the next request then.
 pub fn of_prepare(reported: Result<(), PrepareError>) -> Status
     ensures { result ≡ of_prepare reported }
 {
@@ -103,7 +103,7 @@ pub fn of_prepare(reported: Result<(), PrepareError>) -> Status
         Err(PrepareError::Failed) => Status::Failed,
         Err(PrepareError::RequestsOwed) => Status::RequestsOwed,
         Err(PrepareError::WornOut) => Status::WornOut,
-        Err(PrepareError::SectorWanted) => Status::SectorWanted,
+        Err(PrepareError::SectorWanted) => Status::Done,
     }
 }
 

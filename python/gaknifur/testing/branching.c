@@ -64,12 +64,14 @@ static uint32_t release(etcs_unit_output *newest) {
     etcs_unit_request_info request;
     etcs_unit_output outputs[ETCS_UNIT_OUTPUTS];
     uint8_t bytes[ETCS_UNIT_REQUEST_BYTES];
-    uint32_t count = 0, status;
-    while ((status = etcs_unit_request(&now.unit, count, &request, bytes, sizeof bytes)) == ETCS_UNIT_OK) {
+    uint32_t count, status;
+    while ((status = etcs_unit_request(&now.unit, &request, bytes, sizeof bytes)) == ETCS_UNIT_OK) {
         carry_out(&request, bytes);
-        count++;
+        if ((status = etcs_unit_done(&now.unit)) != ETCS_UNIT_OK) {
+            break;
+        }
     }
-    if (status == ETCS_UNIT_NO_SUCH_REQUEST && (status = etcs_unit_done(&now.unit, count)) == ETCS_UNIT_OK) {
+    if (status == ETCS_UNIT_NO_SUCH_REQUEST) {
         status = etcs_unit_release(&now.unit, outputs, ETCS_UNIT_OUTPUTS, &count);
         if (status == ETCS_UNIT_OK && count > 0) {
             *newest = outputs[count - 1];

@@ -3,7 +3,7 @@ import enum
 from ctypes import POINTER, Structure, c_char_p, c_int64, c_uint8, c_uint16, c_uint32, c_uint64, c_void_p
 
 TELEGRAM_BYTES = 104
-ABI = 5
+ABI = 6
 VERSION_BYTES = 32
 BUILD_INFO_BYTES = 160
 SECTOR = 512
@@ -56,8 +56,6 @@ class Status(enum.IntEnum):
     FAILED = 21
     REQUESTS_OWED = 22
     WORN_OUT = 23
-    SECTOR_WANTED = 24
-    NONE_WANTED = 25
     IMAGE_NOT_FORMATTED = 31
     IMAGE_DAMAGED = 32
     NO_SUCH_SLOT = 35
@@ -67,7 +65,6 @@ class Status(enum.IntEnum):
     NOT_REPLAYED = 39
     BAD_SLOTS = 41
     NOT_RELEASED = 247
-    WRONG_COUNT = 248
     NO_SUCH_REQUEST = 249
     NOT_OPEN = 250
     IS_OPEN = 251
@@ -167,6 +164,7 @@ class RequestKind(enum.IntEnum):
 
     WRITE = 1
     SYNC = 2
+    READ = 3
 
 
 class BrakeCause(enum.IntEnum):
@@ -389,11 +387,7 @@ class Sureness(enum.IntEnum):
 
 
 class etcs_unit(Structure):
-    _fields_ = [("at", c_void_p), ("is_open", c_uint64)]
-
-
-class etcs_opening(Structure):
-    _fields_ = [("at", c_void_p), ("is_open", c_uint64)]
+    _fields_ = [("at", c_void_p), ("is_open", c_uint64), ("power_up", c_void_p), ("is_under_way", c_uint64)]
 
 
 class etcs_unit_output(Structure):
@@ -525,6 +519,7 @@ CALLS: dict[str, tuple[object, ...]] = {
     "etcs_packet_count": (c_char_p, c_uint64),
     "etcs_version_": (c_char_p, c_uint64, POINTER(c_uint32)),
     "etcs_build_info_": (c_char_p, c_uint64, POINTER(c_uint32)),
+    "etcs_unit_begin_": (POINTER(etcs_unit), c_uint64, c_uint32, c_uint32),
     "etcs_unit_open_": (POINTER(etcs_unit), c_char_p, c_uint64, c_uint32, c_uint32),
     "etcs_unit_telegram_": (POINTER(etcs_unit), c_char_p, c_uint64),
     "etcs_unit_odometer_": (POINTER(etcs_unit), c_int64, c_uint32),
@@ -533,16 +528,10 @@ CALLS: dict[str, tuple[object, ...]] = {
     "etcs_unit_identity_": (POINTER(etcs_unit), c_char_p, c_uint64),
     "etcs_unit_running_number_": (POINTER(etcs_unit), c_uint32),
     "etcs_unit_train_data_": (POINTER(etcs_unit), POINTER(etcs_train_data)),
-    "etcs_opening_begin_": (POINTER(etcs_opening), c_uint64, c_uint32, c_uint32),
-    "etcs_opening_go_on_": (POINTER(etcs_opening), POINTER(etcs_unit)),
-    "etcs_opening_wanted_": (POINTER(etcs_opening), POINTER(c_uint64)),
-    "etcs_opening_provide_": (POINTER(etcs_opening), c_uint64, c_char_p, c_uint64),
-    "etcs_opening_close_": (POINTER(etcs_opening),),
-    "etcs_unit_wanted_": (POINTER(etcs_unit), POINTER(c_uint64)),
     "etcs_unit_provide_": (POINTER(etcs_unit), c_uint64, c_char_p, c_uint64),
     "etcs_unit_prepare_": (POINTER(etcs_unit),),
-    "etcs_unit_request_": (POINTER(etcs_unit), c_uint32, POINTER(etcs_unit_request_info), c_char_p, c_uint64),
-    "etcs_unit_done_": (POINTER(etcs_unit), c_uint32),
+    "etcs_unit_request_": (POINTER(etcs_unit), POINTER(etcs_unit_request_info), c_char_p, c_uint64),
+    "etcs_unit_done_": (POINTER(etcs_unit),),
     "etcs_unit_fail_": (POINTER(etcs_unit),),
     "etcs_unit_release_": (POINTER(etcs_unit), POINTER(etcs_unit_output), c_uint64, POINTER(c_uint32)),
     "etcs_unit_state_": (POINTER(etcs_unit), POINTER(etcs_unit_state_info)),

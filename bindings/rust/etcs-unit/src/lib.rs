@@ -158,32 +158,10 @@ impl<M: Medium> Unit<M> {
     /// Powers up, and returns the outputs of what the last life left. In doubt a train may have been moved: `Cold::Unknown`.
     pub fn open(medium: M, cold: Cold) -> Result<(Unit<M>, Vec<Output>), Error<M::Error>> {
         let mut unit = Unit { handle: Box::default(), medium };
-        let mut opening = Box::<sys::etcs_opening>::default();
-        // SAFETY: both handles are all zeros, and stay where they are.
-        let opened = check(unsafe { sys::etcs_opening_begin_(&mut *opening, unit.medium.sectors(), cold as u32, sys::ETCS_UNIT_ABI) })
-            .and_then(|()| unit.power_up(&mut opening));
-        // SAFETY: as above; an opening that is done or never began may be closed.
-        unsafe { sys::etcs_opening_close_(&mut *opening) };
-        opened?;
+        // SAFETY: the handle is all zeros, and stays where it is.
+        check(unsafe { sys::etcs_unit_begin_(&mut *unit.handle, unit.medium.sectors(), cold as u32, sys::ETCS_UNIT_ABI) })?;
         let outputs = unit.release()?;
         Ok((unit, outputs))
-    }
-
-    fn power_up(&mut self, opening: &mut sys::etcs_opening) -> Result<(), Error<M::Error>> {
-        let (mut sector, mut bytes) = (0, [0; SECTOR]);
-        loop {
-            // SAFETY: the handles hold what the library left there.
-            match unsafe { sys::etcs_opening_go_on_(opening, &mut *self.handle) } {
-                sys::ETCS_UNIT_SECTOR_WANTED => {
-                    // SAFETY: as above.
-                    check(unsafe { sys::etcs_opening_wanted_(opening, &mut sector) })?;
-                    self.medium.read(sector, &mut bytes).map_err(Error::Medium)?;
-                    // SAFETY: as above; the bytes are a sector.
-                    check(unsafe { sys::etcs_opening_provide_(opening, sector, bytes.as_ptr(), SECTOR as u64) })?;
-                }
-                status => return check(status),
-            }
-        }
     }
 
     pub fn medium(&self) -> &M {
@@ -227,23 +205,9 @@ impl<M: Medium> Unit<M> {
 
     /// Writes the pending events to the medium, and returns what may reach the train.
     pub fn flush(&mut self) -> Result<Vec<Output>, Error<M::Error>> {
-        let (mut sector, mut bytes) = (0, [0; SECTOR]);
-        loop {
-            // SAFETY: as above.
-            match unsafe { sys::etcs_unit_prepare_(&mut *self.handle) } {
-                sys::ETCS_UNIT_SECTOR_WANTED => {
-                    // SAFETY: as above.
-                    check(unsafe { sys::etcs_unit_wanted_(&mut *self.handle, &mut sector) })?;
-                    self.medium.read(sector, &mut bytes).map_err(Error::Medium)?;
-                    // SAFETY: as above; the bytes are a sector.
-                    check(unsafe { sys::etcs_unit_provide_(&mut *self.handle, sector, bytes.as_ptr(), SECTOR as u64) })?;
-                }
-                status => {
-                    check(status)?;
-                    return self.release();
-                }
-            }
-        }
+        // SAFETY: as above.
+        check(unsafe { sys::etcs_unit_prepare_(&mut *self.handle) })?;
+        self.release()
     }
 
     /// A request that fails makes the unit fail: it releases nothing more.
@@ -253,26 +217,33 @@ impl<M: Medium> Unit<M> {
             // SAFETY: as above.
             unsafe { sys::etcs_unit_fail_(&mut *self.handle) };
         }
-        let done = carried_out?;
-        // SAFETY: as above; so many requests are carried out.
-        check(unsafe { sys::etcs_unit_done_(&mut *self.handle, done) })?;
+        carried_out?;
         let (mut outputs, mut count) = ([sys::etcs_unit_output::default(); OUTPUTS], 0);
         // SAFETY: as above; there is room for all outputs.
         check(unsafe { sys::etcs_unit_release_(&mut *self.handle, outputs.as_mut_ptr(), OUTPUTS as u64, &mut count) })?;
         outputs[..count as usize].iter().map(|raw| Output::of(raw).map_err(|number| Error::Unknown(number.into()))).collect()
     }
 
-    fn carry_out_requests(&mut self) -> Result<u32, Error<M::Error>> {
+    /// At power-up and in each flush: reads are handed in, and of writes and syncs it is said that they are done.
+    fn carry_out_requests(&mut self) -> Result<(), Error<M::Error>> {
         let (mut request, mut bytes) = (sys::etcs_unit_request_info::default(), [0; REQUEST_BYTES]);
-        for done in 0.. {
+        loop {
             // SAFETY: as above; there is room for the bytes of each request.
-            match unsafe { sys::etcs_unit_request_(&mut *self.handle, done, &mut request, bytes.as_mut_ptr(), bytes.len() as u64) } {
-                sys::ETCS_UNIT_NO_SUCH_REQUEST => return Ok(done),
+            match unsafe { sys::etcs_unit_request_(&mut *self.handle, &mut request, bytes.as_mut_ptr(), bytes.len() as u64) } {
+                sys::ETCS_UNIT_NO_SUCH_REQUEST => return Ok(()),
                 status => check(status)?,
             }
-            carry_out(&mut self.medium, &request, &bytes)?;
+            if request.kind == u64::from(sys::ETCS_REQUEST_READ) {
+                let mut sector = [0; SECTOR];
+                self.medium.read(request.sector, &mut sector).map_err(Error::Medium)?;
+                // SAFETY: as above; the bytes are a sector.
+                check(unsafe { sys::etcs_unit_provide_(&mut *self.handle, request.sector, sector.as_ptr(), SECTOR as u64) })?;
+            } else {
+                carry_out(&mut self.medium, &request, &bytes)?;
+                // SAFETY: as above.
+                check(unsafe { sys::etcs_unit_done_(&mut *self.handle) })?;
+            }
         }
-        Err(Error::Refused(Status::NoSuchRequest))
     }
 
     /// The state of the unit.

@@ -1,5 +1,6 @@
 """Rows of the kernel: lists of events of one or several lives. tests/rows/test_kernel.py runs them on the program."""
 from collections import namedtuple
+from string import hexdigits
 
 from items import UNKNOWN, Kept
 from life import Life
@@ -85,7 +86,7 @@ def with_bytes(lines):
         if kind == "hear" and name in telegrams:
             parts = " ".join(telegrams[name]).split("; ")
             line = f"hear {written('; '.join(' '.join(packets.get(part, [part])) for part in parts))}{rest[len(name):]}"
-        elif kind == "hear" and set(name) - set("0123456789ABCDEF"):
+        elif kind == "hear" and set(name) - set(hexdigits):
             raise ValueError(f"no telegram of this part is called {name}")
         yield "" if kind in ("telegram", "packet") or line.startswith("  ") else line
 

@@ -249,12 +249,12 @@ def all_read(reference, program, room):
 
 
 def played(reference, program, room):
-    """Many scenarios: the examples, a life that stops, a line with a fault, one without an end."""
+    """Many scenarios: the examples, a life that stops, lives after one another, a line with a fault, one without an end."""
     lines, one = room / "lines", room / "one.json"
     scenarios = [json.loads(path.read_text()) for path in sorted(TOP.glob("examples/*/*.json"))]
     asked = [{"id": number or "first", "scenario": scenario, "sha256": number > 1} for number, scenario in enumerate(scenarios)]
     stops = {"groups": [], "steps": [{"clock": 5}, {"clock": 4}]}
-    lines.write_text("".join(json.dumps(line) + "\n" for line in [*asked, {"scenario": stops}, {"id": 1}]))
+    lines.write_text("".join(json.dumps(line) + "\n" for line in [*asked, {"scenario": stops}, {"scenario": [stops, scenarios[0]]}, {"id": 1}]))
     read(reference, program, "play", "--outputs", "all", "--images", room, lines)
     one.write_text(json.dumps(stops))
     read(reference, program, "play", one)

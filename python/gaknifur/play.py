@@ -5,8 +5,8 @@
     for result in play({"id": number, "scenario": scenario} for number, scenario in enumerate(scenarios)):
         print(result["id"], result["status"], result["emergency_brakes"])
 
-Each is an input line of `etcs_lab play` (docs/reference/json.md, Many scenarios): an object with a member `scenario`, and perhaps `id`, `cold`, `slots`
-and `sha256`; or only a scenario. The results are the objects that the program prints, in the order of the scenarios. A scenario that can't be run has a
+Each is an input line of `etcs_lab play` (docs/reference/json.md, Many scenarios): an object with a member `scenario`, which may be a list of scenarios, and
+perhaps `id`, `cold`, `slots` and `sha256`; or only a scenario. The results are the objects that the program prints, in the order of the scenarios. A scenario that can't be run has a
 result too. `play_images` also returns the journal image of each scenario; campaigns, sweeps and test cases use it.
 """
 import json
@@ -130,17 +130,22 @@ def on_a_line(scenario: bytes) -> bytes | None:
 
 
 def play_images(scenarios: Iterable[tuple[bytes, int]], folder: Path) -> Generator[tuple[Result, bytes], None, None]:
-    """The result with all outputs of each scenario, which is given as its JSON on one line and its number of slots, and its journal image; no
-    bytes if it can't be run. Until the next result is taken the image is in the folder (`image_in`), which contains no other image."""
+    """The result with all outputs of each scenario or list of scenarios, which is given as its JSON on one line and its number of slots, and its
+    journal image, that of a list after its last life; no bytes if it can't be run. Until the next result is taken its images are in the folder
+    (`image_in`), which contains no other image."""
     for result in played((b'{"slots":%d,"scenario":%b}' % (slots, one) for one, slots in scenarios), 16, "all", folder):
-        if result.get("image") is None:
-            yield result, b""
-            continue
-        path = image_in(folder, result)
+        paths = [image_in(folder, life) for life in lives_of(result) if life.get("image") is not None]
         try:
-            yield result, path.read_bytes()
+            yield result, paths[-1].read_bytes() if paths else b""
         finally:
-            path.unlink(missing_ok=True)
+            for path in paths:
+                path.unlink(missing_ok=True)
+
+
+def lives_of(result: Result) -> list[Result]:
+    """The lives of a result: those of a list of scenarios, or its only one."""
+    lives: list[Result] = result.get("lives", [result])
+    return lives
 
 
 def image_in(folder: Path, result: Result) -> Path:

@@ -1,4 +1,5 @@
 """Scenarios that run together: what the program prints, the images that it writes, and a program that dies or can't write."""
+import json
 import os
 import pickle
 import struct
@@ -30,19 +31,20 @@ def record_bytes(event: int, kind: str, mode: str, place: int) -> bytes:
 
 
 def image_of(*all_blocks: list[bytes], slots: int = SLOTS, first: int = 1) -> bytes:
-    """An image of one life with these blocks of records."""
-    image = bytearray(played_image.empty(slots))
+    """An image with these blocks of records."""
+    image, life = bytearray(played_image.empty(slots)), 0
     for number, block in enumerate(all_blocks, first):
+        life = max(1, life + (block[0][0] == INPUTS["powerup"][0]))
         events = int.from_bytes(block[-1][8:16], "big") + 1
-        slot = layout.gate(number) + struct.pack(">8sQQIB", b"ETCSHED3", number, events, 1, len(block)).ljust(512, b"\0") + b"".join(block)
+        slot = layout.gate(number) + struct.pack(">8sQQIB", b"ETCSHED3", number, events, life, len(block)).ljust(512, b"\0") + b"".join(block)
         at = layout.slot_at(number % slots)
         image[at:at + layout.SLOT] = slot.ljust(layout.SLOT, b"\0")
     return bytes(image)
 
 
-def blocks_of(*modes: str) -> list[list[bytes]]:
+def blocks_of(*modes: str, event: int = 0) -> list[list[bytes]]:
     """The block of a power-up, and one with an event for each mode."""
-    return [[record_bytes(0, "powerup", "SB", 0)], [record_bytes(event, "clock", mode, 100 * event) for event, mode in enumerate(modes, 1)]]
+    return [[record_bytes(event, "powerup", "SB", 0)], [record_bytes(at, "clock", mode, 100 * at) for at, mode in enumerate(modes, event + 1)]]
 
 
 def output(event: int, mode: str) -> Json:
@@ -180,6 +182,9 @@ expected: [{{note: one, never: {{mode: SF}}}}]
 """
 LIFE = "{steps: [{clock: 1 s}, {clock: 2 s}]}"
 GOOD = {"status": "done", "image": 1, "outputs": [output(1, "FS"), output(2, "TR")]}, image_of(*blocks_of("FS", "TR"))
+REFUSED = {"status": "refused", "fault": 2, "name": "Shape"}, b""
+LATER = {"status": "done", "image": 2, "outputs": [output(4, "FS"), output(5, "TR")]}
+LIVES_IMAGE = image_of(*blocks_of("FS", "TR"), *blocks_of("FS", "TR", event=3))
 
 
 class Cases(unittest.TestCase):
@@ -218,8 +223,8 @@ class Cases(unittest.TestCase):
     def test_results(self) -> None:
         stopped = {"status": "stopped", "number": 7, "name": "ClockFell"}
         altered = GOOD[0] | {"outputs": [output(1, "FS"), output(2, "FS")]}
-        found = self.taken(GOOD, (altered, GOOD[1]), (GOOD[0] | stopped, GOOD[1]))
-        self.assertEqual((self.alone, [slots for _, slots in self.given]), (["two lives"], [4, 4, 4]))
+        found = self.taken(GOOD, REFUSED, (altered, GOOD[1]), (GOOD[0] | stopped, GOOD[1]))
+        self.assertEqual((self.alone, [slots for _, slots in self.given]), (["two lives"], [4, 4, 4, 4]))
         self.assertEqual([one["event"] for one in found["one"].played().records], [0, 1, 2])
         self.assertEqual((found["one"].image, found["two lives"].image), (GOOD[1], b"its image"))
         for name, message in (("other", "the output of its record: event 2 mode TR"), ("last", "found:    stopped 7 ClockFell \\(steps of")):
@@ -227,8 +232,21 @@ class Cases(unittest.TestCase):
                 found[name].played()
             self.assertEqual(found[name].image, GOOD[1])
 
+    def test_several_lives(self) -> None:
+        """Lives after one another run together; a case in which one fails, or wasn't run, is run by itself."""
+        found = self.taken(GOOD, ({"lives": [GOOD[0], LATER]}, LIVES_IMAGE), GOOD, GOOD)
+        scenario = {"groups": [], "steps": [{"clock": 1000}, {"clock": 2000}]}
+        self.assertEqual(([json.loads(line) for line, _ in self.given], self.alone), ([scenario, [scenario, scenario], scenario, scenario], []))
+        self.assertEqual([(one["event"], one["life"]) for one in found["two lives"].played().records], [(0, 1), (1, 1), (2, 1), (3, 2), (4, 2), (5, 2)])
+        self.assertEqual(found["two lives"].image, LIVES_IMAGE)
+        for lives in ([GOOD[0]], [GOOD[0], {"status": "no_memory"}], [GOOD[0], LATER | {"status": "stopped", "number": 7, "name": "ClockFell"}],
+                      [GOOD[0], LATER | {"outputs": [output(4, "TR"), output(5, "TR")]}]):
+            self.alone.clear()
+            self.assertEqual(self.taken(GOOD, ({"lives": lives}, LIVES_IMAGE), GOOD, GOOD)["two lives"].image, b"its image")
+            self.assertEqual(self.alone, ["two lives"])
+
     def test_other_results(self) -> None:
-        found = self.taken(({"status": "no_memory"}, b""), ({"status": "refused", "fault": 2, "name": "Shape"}, b""), (GOOD[0], GOOD[1][:-1]))
+        found = self.taken(({"status": "no_memory"}, b""), REFUSED, REFUSED, (GOOD[0], GOOD[1][:-1]))
         self.assertEqual(self.alone, ["one", "two lives"])
         self.assertEqual(found["other"].image, played_image.empty(4))
         for name, message in (("other", "found:    refused 2 Shape"), ("last", "no valid first sector")):

@@ -6,6 +6,7 @@ and the last line of `run`, which says why the life stopped; `play` says it in t
 
     tests/hostile/lab_memory.py
 """
+import json
 import re
 import sys
 from pathlib import Path
@@ -17,8 +18,19 @@ from lab_words import all_words, lab_ran, laid
 SAYS = re.compile(r"etcs_lab: [^\n]+: out of memory\n")
 STOPPED = re.compile(r'\{"end":"stopped","step":(null|[0-9]+),"number":(4|12),"name":"NoMemory"\}\n$')
 ANSWERS = ("refused memory\n", '{"refused":{"name":"memory"}}\n')
-REFUSED = re.compile(r'\{"id":("good"|"faulty"|null),"line":[12],"status":"no_memory","name":"NoMemory"\}')
+REFUSED = re.compile(r'\{"id":("good"|"faulty"|"lives"|null),"line":[123],"status":"no_memory","name":"NoMemory"\}')
+LIFE = {"status": "no_memory", "name": "NoMemory"}
 MOST, LEAST = 100_000, 300
+
+
+def ends_early(line, undisturbed):
+    """Whether a line has the first lives of the undisturbed one, and then a life that memory was refused for."""
+    found, other = json.loads(line), json.loads(undisturbed)
+    if "lives" not in found or "lives" not in other:
+        return False
+    *first, last = found.pop("lives")
+    lives = other.pop("lives")
+    return found == other and last == LIFE and len(first) < len(lives) and first == lives[:len(first)]
 
 
 def says_so(words, found, undisturbed):
@@ -30,7 +42,8 @@ def says_so(words, found, undisturbed):
         printed = STOPPED.sub("", printed)
     if words[0] == "play" and not said:
         lines = printed.splitlines()
-        return status == 1 and len(lines) == 2 and all(one == other or REFUSED.fullmatch(one) for one, other in zip(lines, undisturbed[1].splitlines()))
+        return status == 1 and len(lines) == 3 and all(one == other or REFUSED.fullmatch(one) or ends_early(one, other)
+                                                       for one, other in zip(lines, undisturbed[1].splitlines()))
     is_in_pieces = words[0] in ("examine", "check") and "--json" in words
     return status == 1 and bool(SAYS.fullmatch(said)) and undisturbed[1].startswith(printed) and (is_in_pieces or printed[-1:] in ("", "\n"))
 

@@ -31,7 +31,8 @@ def laid(folder):
     files["advised"].write_text(json.dumps(ADVISED))
     files["faulty"].write_text(json.dumps(FAULTY))
     files["names"].write_text(NAMES_TWICE)
-    files["lines"].write_text("".join(json.dumps({"id": name, "scenario": scenario}) + "\n" for name, scenario in (("good", STAFF_RESPONSIBLE), ("faulty", FAULTY))))
+    files["lines"].write_text("".join(json.dumps({"id": name, "scenario": scenario}) + "\n" for name, scenario in (
+        ("good", STAFF_RESPONSIBLE), ("faulty", FAULTY), ("lives", [STAFF_RESPONSIBLE, FULL_SUPERVISION]))))
     return files
 
 

@@ -1,7 +1,7 @@
 #!/usr/bin/env python3
 """What `etcs_lab play` prints of many scenarios in one process: random scenarios and the examples, compared with the reference model (each
-output, each count, and the image byte by byte), and with `etcs run` on an image in a file; the records of an image that Python reads, compared with
-those of `etcs_lab events`; hand-written cases that can't be played or read.
+output, each count, and the image byte by byte), and with `etcs run` on an image in a file; lists of scenarios, each a life on the journal that the one
+before left; the records of an image that Python reads, compared with those of `etcs_lab events`; hand-written cases that can't be played or read.
 
     tests/lab/play_rows.py ETCS_LAB ETCS                       the full check
     tests/lab/play_rows.py ETCS_LAB ETCS SCENARIOS [SEED]      only random scenarios, each by `etcs_lab play`, `etcs run` and the reference model
@@ -21,17 +21,21 @@ TOP = HERE.parents[1]
 sys.path[:0] = [str(HERE), str(TOP / "tests"), str(TOP / "tests/plain"), str(TOP / "tests/hostile"), str(TOP / "python")]
 from compared import Compared, objects, run, status_of_full  # noqa: E402
 from disk import SECTOR_BYTES, Disk  # noqa: E402
-from journal import first_sector  # noqa: E402
 from format_rows import live  # noqa: E402
+from journal import Refused, first_sector, signs_of  # noqa: E402
+from onboard import MOST_PENDING, Unit  # noqa: E402
+from program import WORDS, event_of  # noqa: E402
 from random_lists import Numbers  # noqa: E402
-from run_rows import Played, RunRows, lived, wanted_of  # noqa: E402
+from run_rows import Played, RunRows, lived, placed, wanted_of  # noqa: E402
 
 SCENARIOS, SEED, LEAST_OUTPUTS, LEAST_RECORDS = 400, 7, 5_000, 1_000
+LISTS, MOST_LIVES, LEAST_LATER = 60, 4, 100
 OUTPUT = ("event", "mode", "level", "brake", "limit_m_per_h", "indications")
 SLOTS = (2, 3, 16, 64)
 LONGEST = 16_777_216
 CLOCK = '{"groups":[],"steps":[{"clock":1000}]}'
 MEMBERS = "an object of scenario, and perhaps id, cold, slots and sha256"
+LIST = "a scenario, or a list of scenarios"
 
 # By hand: a line, and what is printed for it along with its number.
 FAULTS = (
@@ -53,6 +57,12 @@ FAULTS = (
     ('{"scenario":%s,"id":}' % CLOCK, {"id": None, "pointer": "", "fault": 1, "name": "NotJson", "wanted": "a JSON object on one line"}),
     ('{"scenario":{"groups":[],"steps":[1 2]}}', {"id": None, "pointer": "/scenario", "fault": 1, "name": "NotJson"}),
     ('{"scenario":7}', {"id": None, "pointer": "/scenario", "fault": 2, "name": "Shape"}),
+    ('{"scenario":[]}', {"id": None, "pointer": "/scenario", "fault": 2, "name": "Shape", "wanted": LIST}),
+    ('{"scenario":[%s}' % CLOCK, {"id": None, "pointer": "", "fault": 1, "name": "NotJson", "wanted": "a JSON object on one line"}),
+    ('{"id":3,"scenario":[%s] 7}' % CLOCK, {"id": 3, "pointer": "/scenario", "fault": 1, "name": "NotJson", "wanted": LIST}),
+    ('{"id":4,"scenario":[%s,]}' % CLOCK, {"id": 4, "pointer": "/scenario/1", "fault": 1, "name": "NotJson"}),
+    ('{"scenario":[%s,{"groups":[],"steps":[{"clock":-1}]}]}' % CLOCK, {"id": None, "pointer": "/scenario/1/steps/0/clock", "fault": 3, "name": "OutOfRange"}),
+    ('{"scenario":[%s,[%s]]}' % (CLOCK, CLOCK), {"id": None, "pointer": "/scenario/1", "fault": 2, "name": "Shape"}),
 )
 
 # Lives that stop: nothing is pending, or some events are, which are lost.
@@ -113,6 +123,52 @@ class Case:
                 "sha256": hashlib.sha256(self.image).hexdigest() if self.digest else None, "image": image, "outputs": chosen(self.outputs, which)}
 
 
+def life_on(disk, scenario):
+    """A life of the plain unit on a disk: its outputs, and how it ends."""
+    outputs, at = [], None
+    unit = Unit(disk, WORDS[scenario.get("cold", 0)])
+    try:
+        for at, asked in placed(scenario):
+            if asked is None or len(unit.pending) == MOST_PENDING:
+                outputs += unit.flush()
+            if asked is not None:
+                unit.accept(*event_of(*asked)[1:3])
+        outputs += unit.flush()
+        end = {"status": "done"}
+    except Refused as refused:
+        number, name = str(refused).split()
+        end = {"status": "stopped", "step": at, "number": int(number), "name": name}
+    values = [(event, one.mode, None if one.level == "-" else int(one.level), one.brake, one.limit, signs_of(one.indications)) for event, one in outputs]
+    return [dict(zip(OUTPUT, one)) for one in values], end
+
+
+class Lives:
+    """Scenarios that are lives after one another on one journal, and what is wanted of them by the plain unit."""
+
+    def __init__(self, name, scenarios, slots, given):
+        self.name, self.scenarios, self.slots, self.given = name, scenarios, slots, given
+        self.asked = [one if given is None else one | {"cold": given} for one in scenarios]
+        disk = Disk([first_sector(slots)] + [bytes(SECTOR_BYTES)] * (6 * slots))
+        self.ends, self.outputs, self.images = [], [], []
+        for one in self.asked:
+            outputs, end = life_on(disk, one)
+            self.outputs.append(outputs)
+            self.ends.append(end)
+            self.images.append(b"".join(disk.held))
+        self.status = max(end["status"] != "done" for end in self.ends)
+
+    def members(self):
+        """What a line has."""
+        return {"id": self.name, "scenario": self.scenarios, "slots": self.slots, "sha256": True, **({} if self.given is None else {"cold": self.given})}
+
+    def wanted(self, line, which, image):
+        """The line that is printed; the images are numbered from this number on, if they are kept."""
+        lives = [end | {"events": len(outputs)} | counts(outputs) | {
+            "sha256": hashlib.sha256(held).hexdigest(), "image": None if image is None else image + number, "outputs": chosen(outputs, which)}
+            for number, (end, outputs, held) in enumerate(zip(self.ends, self.outputs, self.images))]
+        return {"id": self.name, "line": line, "lives": lives}
+
+
 class Plays(Compared):
     def __init__(self, lab, etcs, folder):
         super().__init__()
@@ -155,6 +211,43 @@ class Plays(Compared):
             self.met["outputs"] += len(case.outputs)
             self.met[case.end["end"]] += 1
             self.met.update(name for name, count in counts(case.outputs).items() if count)
+
+    def lists(self):
+        """Lists of scenarios: each is a life on the journal that the one before left, as `etcs run` runs it on that image. One scenario in a list
+        is as one that is in none."""
+        numbers, chance = Numbers(SEED + 1), random.Random(SEED + 1)
+        made = [Played(numbers).scenario() for _ in range(LISTS)] + [{"groups": [], "steps": steps} for steps in FALLING]
+        lists = [Lives(f"list {number}", [chance.choice(made) for _ in range(chance.randint(1, MOST_LIVES))], chance.choice(SLOTS),
+                       chance.choice((None, None, 0, 1, 2))) for number in range(LISTS)]
+        text = "".join(json.dumps(one.members(), indent=chance.choice((None, 1))).replace("\n", " ") + "\n" for one in lists)
+        for which in ("all", "changes"):
+            images, image = self.folder / f"lists {which}", 1
+            images.mkdir()
+            found, status, said = self.play(text, "--outputs", which, "--images", images)
+            self.unless((status, said, len(found)) == (max(one.status for one in lists), "", len(lists)), f"lists: status {status}, {said}, {len(found)}")
+            for number, (one, other) in enumerate(zip(lists, found)):
+                self.same_json(f"{which}, {one.name}", other, one.wanted(number + 1, which, image))
+                for held in one.images:
+                    path = images / f"{image}.image"
+                    self.unless(path.exists() and path.read_bytes() == held, f"{which}, {one.name}: image {image} is another")
+                    image += 1
+                self.met["later"] += len(one.scenarios) - 1
+        for one in lists[::6]:
+            path, image = self.folder / "scenario.json", self.folder / "image"
+            run(self.etcs, ["format", image, one.slots])
+            for scenario, outputs, end, held in zip(one.asked, one.outputs, one.ends, one.images):
+                path.write_text(json.dumps(scenario))
+                lines, _, _ = run(self.etcs, ["run", path, image])
+                printed = RunRows.as_printed("".join(json.dumps(output) + "\n" for output in outputs))
+                if end["status"] == "stopped":
+                    printed += f"stopped {end['number']} {end['name']}\n"
+                self.same(f"etcs run, {one.name}", (lines, image.read_bytes()), (printed, held))
+            path.write_text(json.dumps(one.asked, indent=2))
+            found, status, said = self.play(None, "--outputs", "all", "--slots", one.slots, path)
+            (wanted,) = [one.wanted(None, "all", None) | {"id": None}]
+            for life in wanted["lives"]:
+                life["sha256"] = None
+            self.same(f"a file, {one.name}", (found, status, said), ([wanted], one.status, ""))
 
     def as_run(self, cases):
         """As `etcs run` on an image in a file."""
@@ -289,12 +382,14 @@ class Plays(Compared):
         cases = list(self.cases())
         for which in ("all", "last", "changes", "none"):
             self.many(which, cases)
+        self.lists()
         self.as_run(cases[::4])
         self.from_python(cases[::7])
         self.faults()
         self.unread()
         for word in ("done", "stopped", "trips", "service_brakes", "emergency_brakes"):
             self.unless(self.met[word], f"no scenario has {word}")
+        self.unless(self.met["later"] >= LEAST_LATER, f"{self.met['later']} later lives are too few")
         self.unless(self.met["records"] >= LEAST_RECORDS, f"{self.met['records']} records are too few")
         self.unless(self.met["outputs"] >= 4 * LEAST_OUTPUTS, f"{self.met['outputs'] // 4} outputs are too few")
         return self.end(f"play: {self.count} comparisons, {len(cases)} scenarios in 4 ways, a fourth of them by etcs run")

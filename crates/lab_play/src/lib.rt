@@ -1,14 +1,17 @@
-//! The command `play` of `etcs_lab`: plays scenarios, one a line or one a file, and prints a result for each (this project's
-//! profile).
+//! The command `play` of `etcs_lab`: plays scenarios, one a line or one a file, and prints a result for each (this
+//! project's profile).
 #![tactic(auto)]
 
 mod digits;
 mod image_file;
 mod line_bytes;
 mod line_input;
+mod lives_list;
 mod play;
+mod player;
 mod request;
 mod result_line;
+mod scan;
 
 pub use digits::digits_of;
 pub use play::{PlayArgs, play_scenarios};

@@ -1,21 +1,17 @@
 //! The command `play`.
 
-use crate::image_file::write_image;
 use crate::line_bytes::{copy_of, is_blank, without_scenario};
 use crate::line_input::{Line, MOST_LINE, read_line};
-use crate::request::{LineFault, Request, id_of, members_of, request_of, scenario_in};
-use crate::result_line::{
-    LineOptions, Named, Outputs, write_fault, write_played, write_refused, write_unplayed,
-};
+use crate::lives_list::is_list;
+use crate::player::{Player, Source};
+use crate::request::{Request, id_of, last_end, members_of, request_of, scenario_in};
+use crate::result_line::{Named, Outputs, write_unplayed};
 use command_line::lab_status::{
     Status, fail, no_memory, refused_args, reported, unread, unread_for,
 };
-use json_values::Outline;
-use scenario_advice::faults_of;
-use scenario_player::{LiveError, PlayError, Played, play};
 use serde_json::Value;
-use simulator::{Scenario, ScenarioFault, ends_of};
-use std::alloc::{AllocError, Global};
+use simulator::Scenario;
+use std::alloc::AllocError;
 use std::fs::File;
 use std::io::{BufRead, BufReader, ErrorKind, Write};
 use std::rt::Files;
@@ -49,205 +45,58 @@ const SLOTS: u32 = 16;
 // and takes the same memory again for the next one.
 const KEPT_BYTES: usize = 8_388_608;
 
-// The scenarios of a file, as far as they were played.
-#[derive(Drop)]
-struct Player<'a> {
-    path: &'a str,
-    slots: u32,
-    outputs: Outputs,
-    folder: Option<&'a str>,
-    count: u64,
-    all_done: bool,
-}
-
-// Which scenario it is, and where its text is in its line.
-#[derive(Clone, Copy)]
-struct Source<'v> {
-    named: Named<'v>,
-    pointer: &'static str,
-}
-
-// The step of the scenario at which a life stopped.
-fn step_of(alloc: Global, scenario: &Scenario, error: LiveError) -> Option<u64> {
-    let place = match error {
-        LiveError::Open(_) => return None,
-        LiveError::Accept(place, _) => place,
-        LiveError::Flush(place, _) => place,
-        LiveError::NoMemory(place) => place,
-    };
-    let Ok(ends) = ends_of(alloc, scenario) else {
-        return None;
-    };
-    let mut step = 0u64;
-    for end in ends.as_slice() {
-        if *end > place {
-            break;
-        }
-        step = step.saturating_add(1);
-    }
-    Some(step)
-}
-
 impl<'a> Player<'a> {
-    // Prints the line of a life that was played.
-    fn print_played<R: Files<File = File> + AllocGlobal + Eprint, W: Write>(
-        &mut self,
-        rt: &R,
-        source: Source<'_>,
-        scenario: &Scenario,
-        played: &Played,
-        digest: bool,
-        out: &mut W,
-    ) -> Result<(), Status> {
-        let step = match played.ended {
-            Ok(()) => None,
-            Err(error) => {
-                self.all_done = false;
-                step_of(rt.alloc(), scenario, error)
-            }
-        };
-        let image = match self.folder {
-            Some(folder) => {
-                write_image(rt, folder, self.count, played.image.as_slice())?;
-                Some(self.count)
-            }
-            None => None,
-        };
-        let options = LineOptions {
-            outputs: self.outputs,
-            step,
-            digest,
-            image,
-        };
-        reported(
-            rt,
-            self.path,
-            write_played(source.named, played, options, out),
-        )
-    }
-
-    // Prints the line of a scenario that memory was refused for.
-    fn print_no_memory<R: Eprint, W: Write>(
-        &mut self,
-        rt: &R,
-        named: Named<'_>,
-        out: &mut W,
-    ) -> Result<(), Status> {
-        self.all_done = false;
-        reported(
-            rt,
-            self.path,
-            write_unplayed(named, "no_memory", "NoMemory", out),
-        )
-    }
-
-    // Prints the line of a scenario with a fault.
-    fn print_fault<R: AllocGlobal + Eprint, W: Write>(
-        &mut self,
-        rt: &R,
-        source: Source<'_>,
-        scenario: &Scenario,
-        out: &mut W,
-    ) -> Result<(), Status> {
-        let Ok(outline) = Outline::of(rt.alloc(), scenario.bytes.as_slice()) else {
-            return self.print_no_memory(rt, source.named, out);
-        };
-        let Err(faults) = faults_of(rt.alloc(), scenario, &outline) else {
-            return self.print_no_memory(rt, source.named, out);
-        };
-        let first = faults.first;
-        if let ScenarioFault::NoMemory = first.fault {
-            return self.print_no_memory(rt, source.named, out);
-        }
-        self.all_done = false;
-        let (number, fault, wanted) = (first.fault.number(), first.fault, first.wanted);
-        let (before, pointer) = (source.pointer, outline.pointer(first.place));
-        reported(rt, self.path, write_refused(source.named, out))?;
-        let written = writeln!(
-            out,
-            ",\"pointer\":\"{before}{pointer}\",\"fault\":{number},\"name\":\"{fault}\",\"wanted\":\"{wanted}\"}}"
-        );
-        reported(rt, self.path, written)
-    }
-
-    // Plays a scenario, and prints its line.
-    fn play_one<R: Files<File = File> + AllocGlobal + Eprint, W: Write>(
-        &mut self,
-        rt: &R,
-        source: Source<'_>,
-        scenario: &Scenario,
-        request: Request,
-        out: &mut W,
-    ) -> Result<(), Status> {
-        let slots = match request.slots {
-            Some(slots) => slots,
-            None => self.slots,
-        };
-        match play(rt.alloc(), scenario, request.cold, slots) {
-            Ok(played) => self.print_played(rt, source, scenario, &played, request.digest, out),
-            Err(PlayError::Scenario(_)) => self.print_fault(rt, source, scenario, out),
-            Err(_) => self.print_no_memory(rt, source.named, out),
-        }
-    }
-
-    // Prints the line of a line that has a fault.
-    fn print_line_fault<R: Eprint, W: Write>(
-        &mut self,
-        rt: &R,
-        named: Named<'_>,
-        found: &LineFault,
-        out: &mut W,
-    ) -> Result<(), Status> {
-        if let ScenarioFault::NoMemory = found.fault {
-            return self.print_no_memory(rt, named, out);
-        }
-        self.all_done = false;
-        reported(rt, self.path, write_fault(named, found, out))
-    }
-
-    // Plays the scenario of a line whose members are these.
+    // Plays the scenario of a line whose members are these; whether a line was printed.
     fn play_members<R: Files<File = File> + AllocGlobal + Eprint, W: Write>(
         &mut self,
         rt: &R,
         number: u64,
         members: &Value,
         scenario: &[u8],
+        is_likely: bool,
         out: &mut W,
-    ) -> Result<(), Status> {
+    ) -> Result<bool, Status> {
         let named = Named {
             id: id_of(members),
             line: Some(number),
         };
         let request = match request_of(members) {
             Ok(request) => request,
-            Err(found) => return self.print_line_fault(rt, named, &found, out),
-        };
-        let Ok(bytes) = copy_of(rt.alloc(), scenario) else {
-            return self.print_no_memory(rt, named, out);
+            Err(_) if is_likely => return Ok(false),
+            Err(found) => {
+                self.print_line_fault(rt, named, &found, out)?;
+                return Ok(true);
+            }
         };
         let source = Source {
             named,
             pointer: "/scenario",
+            element: None,
+            is_likely,
+        };
+        if is_list(scenario) {
+            return self.play_list(rt, source, scenario, request, out);
+        }
+        let Ok(bytes) = copy_of(rt.alloc(), scenario) else {
+            self.print_no_memory(rt, named, out)?;
+            return Ok(true);
         };
         self.play_one(rt, source, &Scenario { bytes }, request, out)
     }
 
-    // Plays the scenario of a line.
-    fn play_line<R: Files<File = File> + AllocGlobal + Eprint, W: Write>(
+    // Plays the scenario that is in a line from one place to another; whether a line was printed.
+    fn play_between<R: Files<File = File> + AllocGlobal + Eprint, W: Write>(
         &mut self,
         rt: &R,
         number: u64,
         line: &[u8],
+        (from, to): (usize, usize),
+        is_likely: bool,
         out: &mut W,
-    ) -> Result<(), Status> {
-        self.count = self.count.saturating_add(1);
+    ) -> Result<bool, Status> {
         let named = Named {
             id: None,
             line: Some(number),
-        };
-        let (from, to) = match scenario_in(line) {
-            Some(range) => range,
-            None => (line.len(), line.len()),
         };
         let without = if from < to {
             without_scenario(rt.alloc(), line, from, to)
@@ -255,7 +104,8 @@ impl<'a> Player<'a> {
             copy_of(rt.alloc(), line)
         };
         let Ok(without) = without else {
-            return self.print_no_memory(rt, named, out);
+            self.print_no_memory(rt, named, out)?;
+            return Ok(true);
         };
         match members_of(rt.alloc(), without.as_slice()) {
             Ok(members) => {
@@ -263,10 +113,38 @@ impl<'a> Player<'a> {
                     Some(scenario) => scenario,
                     None => &[],
                 };
-                self.play_members(rt, number, &members, scenario, out)
+                self.play_members(rt, number, &members, scenario, is_likely, out)
             }
-            Err(found) => self.print_line_fault(rt, named, &found, out),
+            Err(_) if is_likely => Ok(false),
+            Err(found) => {
+                self.print_line_fault(rt, named, &found, out)?;
+                Ok(true)
+            }
         }
+    }
+
+    // Plays the scenario of a line. It is mostly the last member, whose end is known: where it is played as that, the
+    // line is JSON, and has it there.
+    fn play_line<R: Files<File = File> + AllocGlobal + Eprint, W: Write>(
+        &mut self,
+        rt: &R,
+        number: u64,
+        line: &[u8],
+        out: &mut W,
+    ) -> Result<(), Status> {
+        if let Some(end) = last_end(line) {
+            if let Some(range) = scenario_in(line, Some(end)) {
+                if self.play_between(rt, number, line, range, true, out)? {
+                    return Ok(());
+                }
+            }
+        }
+        let range = match scenario_in(line, None) {
+            Some(range) => range,
+            None => (line.len(), line.len()),
+        };
+        self.play_between(rt, number, line, range, false, out)?;
+        Ok(())
     }
 
     // Prints the line of a line that is too long.
@@ -320,18 +198,27 @@ impl<'a> Player<'a> {
         out: &mut W,
     ) -> Result<(), Status> {
         let bytes = fs::read(rt, self.path).map_err(|error| unread_for(rt, self.path, &error))?;
-        self.count = self.count.saturating_add(1);
         let named = Named {
             id: None,
             line: None,
         };
-        let source = Source { named, pointer: "" };
+        let source = Source {
+            named,
+            pointer: "",
+            element: None,
+            is_likely: false,
+        };
         let request = Request {
             cold: None,
             slots: None,
             digest: false,
         };
-        self.play_one(rt, source, &Scenario { bytes }, request, out)
+        if is_list(bytes.as_slice()) {
+            self.play_list(rt, source, bytes.as_slice(), request, out)?;
+        } else {
+            self.play_one(rt, source, &Scenario { bytes }, request, out)?;
+        }
+        Ok(())
     }
 
     // Plays what a file or standard input holds.

@@ -1,5 +1,6 @@
 //! What a line of `play` asks for.
 
+use crate::scan::Scan;
 use mode_table::Cold;
 use serde_json::Value;
 use simulator::ScenarioFault;
@@ -65,76 +66,41 @@ const NOT_JSON: LineFault = LineFault {
     wanted: "a JSON object on one line",
 };
 
-const NO_MEMORY: LineFault = LineFault {
+/// Memory was refused.
+pub(crate) const NO_MEMORY: LineFault = LineFault {
     fault: ScenarioFault::NoMemory,
     pointer: "",
     wanted: "memory",
 };
 
-// How far a line is read: how deep it is nested there, whether that is within a text, and where the last text is.
-#[derive(Drop)]
-struct Scan {
-    depth: usize,
-    in_text: bool,
-    escaped: bool,
-    text_from: usize,
-    text_end: usize,
-}
-
-impl Scan {
-    // Goes over a byte of a text.
-    fn pass_text(&mut self, byte: u8, at: usize) {
-        if self.escaped {
-            self.escaped = false;
-        } else if byte == b'\\' {
-            self.escaped = true;
-        } else if byte == b'"' {
-            self.in_text = false;
-            self.text_end = at;
-        }
-    }
-
-    // Goes over a byte between texts.
-    fn pass(&mut self, byte: u8, at: usize) {
-        match byte {
-            b'"' => {
-                self.in_text = true;
-                self.text_from = at.saturating_add(1);
-            }
-            b'{' | b'[' => self.depth = self.depth.saturating_add(1),
-            b'}' | b']' => self.depth = self.depth.saturating_sub(1),
-            _ => {}
-        }
-    }
-
-    // Whether the last text of the line is this one.
-    fn has(&self, line: &[u8], name: &[u8]) -> bool {
-        match line.get(self.text_from..self.text_end) {
-            Some(text) => *text == *name,
-            None => false,
-        }
+/// Where the last member of a line ends, if the line ends with an object or a list in an object.
+pub(crate) fn last_end(line: &[u8]) -> Option<usize> {
+    let (last, members) = line.split_last()?;
+    let (end, _) = members.split_last()?;
+    if *last == b'}' && (*end == b'}' || *end == b']') {
+        Some(members.len())
+    } else {
+        None
     }
 }
 
-/// Where the value of the member `scenario` of a line is. Of a line that is no JSON it is any part of it.
-pub(crate) fn scenario_in(line: &[u8]) -> Option<(usize, usize)> {
-    let mut scan = Scan {
-        depth: 0,
-        in_text: false,
-        escaped: false,
-        text_from: 0,
-        text_end: 0,
-    };
+/// Where the value of the member `scenario` of a line is. Of a line that is no JSON it is any part of it. Where an end
+/// is given it is the end of the line's last member, which is taken to be this one, and not looked for.
+pub(crate) fn scenario_in(line: &[u8], given_end: Option<usize>) -> Option<(usize, usize)> {
+    let mut scan = Scan::new();
     let mut found = None;
     for at in 0..line.len() {
         let byte = line[at];
-        if scan.in_text {
+        if scan.is_in_text() {
             scan.pass_text(byte, at);
             continue;
         }
-        if scan.depth == 1 {
+        if scan.depth() == 1 {
             match (byte, found) {
-                (b':', None) if scan.has(line, b"scenario") => found = Some(at + 1),
+                (b':', None) if scan.has(line, b"scenario") => match given_end {
+                    Some(end) => return Some((at + 1, end)),
+                    None => found = Some(at + 1),
+                },
                 (b',' | b'}', Some(from)) => return Some((from, at)),
                 _ => {}
             }

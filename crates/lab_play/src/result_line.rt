@@ -50,13 +50,13 @@ pub(crate) struct Named<'v> {
 
 /// What is printed of a life.
 #[derive(Clone, Copy)]
-pub(crate) struct LineOptions {
+pub(crate) struct LifeOptions<'i> {
     /// Which outputs.
     pub outputs: Outputs,
     /// The step of the scenario at which it stopped.
     pub step: Option<u64>,
-    /// Whether the digest of the image is printed.
-    pub digest: bool,
+    /// The image whose digest is printed.
+    pub digested: Option<&'i [u8]>,
     /// The number of the image that was written.
     pub image: Option<u64>,
 }
@@ -169,25 +169,31 @@ fn write_outputs<W: Write>(released: &[Released], outputs: Outputs, out: &mut W)
         }
         Outputs::None => {}
     }
-    out.write_all(b"]}\n")
+    out.write_all(b"]")
 }
 
-fn write_front<W: Write>(named: Named<'_>, status: &str, out: &mut W) -> io::Result<()> {
+fn write_named<W: Write>(named: Named<'_>, out: &mut W) -> io::Result<()> {
     match named.id {
         Some(id) => write!(out, "{{\"id\":{id}")?,
         None => out.write_all(b"{\"id\":null")?,
     }
     write_pieces(
         Form::Json,
-        &[
-            Piece::Same(",\"line\":"),
-            known(named.line),
-            Piece::Same(",\"status\":\""),
-        ],
+        &[Piece::Same(",\"line\":"), known(named.line)],
         out,
-    )?;
+    )
+}
+
+fn write_status<W: Write>(status: &str, out: &mut W) -> io::Result<()> {
+    out.write_all(b"\"status\":\"")?;
     out.write_all(status.as_bytes())?;
     out.write_all(b"\"")
+}
+
+fn write_front<W: Write>(named: Named<'_>, status: &str, out: &mut W) -> io::Result<()> {
+    write_named(named, out)?;
+    out.write_all(b",")?;
+    write_status(status, out)
 }
 
 fn write_end<W: Write>(error: LiveError, step: Option<u64>, out: &mut W) -> io::Result<()> {
@@ -234,12 +240,11 @@ fn write_digest<W: Write>(image: &[u8], out: &mut W) -> io::Result<()> {
     out.write_all(b"\"")
 }
 
-fn write_image<W: Write>(played: &Played, options: LineOptions, out: &mut W) -> io::Result<()> {
+fn write_image<W: Write>(options: LifeOptions<'_>, out: &mut W) -> io::Result<()> {
     out.write_all(b",\"sha256\":")?;
-    if options.digest {
-        write_digest(played.image.as_slice(), out)?;
-    } else {
-        out.write_all(b"null")?;
+    match options.digested {
+        Some(image) => write_digest(image, out)?,
+        None => out.write_all(b"null")?,
     }
     write_pieces(
         Form::Json,
@@ -248,23 +253,65 @@ fn write_image<W: Write>(played: &Played, options: LineOptions, out: &mut W) -> 
     )
 }
 
-/// Prints the line of a scenario that was played.
-pub(crate) fn write_played<W: Write>(
-    named: Named<'_>,
-    played: &Played,
-    options: LineOptions,
-    out: &mut W,
-) -> io::Result<()> {
+// The members of a life that was played.
+fn write_life<W: Write>(played: &Played, options: LifeOptions<'_>, out: &mut W) -> io::Result<()> {
     match played.ended {
-        Ok(()) => write_front(named, "done", out)?,
+        Ok(()) => write_status("done", out)?,
         Err(error) => {
-            write_front(named, "stopped", out)?;
+            write_status("stopped", out)?;
             write_end(error, options.step, out)?;
         }
     }
     write_counts(played, out)?;
-    write_image(played, options, out)?;
+    write_image(options, out)?;
     write_outputs(played.released.as_slice(), options.outputs, out)
+}
+
+/// Prints the line of a scenario that was played.
+pub(crate) fn write_played<W: Write>(
+    named: Named<'_>,
+    played: &Played,
+    options: LifeOptions<'_>,
+    out: &mut W,
+) -> io::Result<()> {
+    write_named(named, out)?;
+    out.write_all(b",")?;
+    write_life(played, options, out)?;
+    out.write_all(b"}\n")
+}
+
+/// Begins the line of a list of scenarios.
+pub(crate) fn begin_lives<W: Write>(named: Named<'_>, out: &mut W) -> io::Result<()> {
+    write_named(named, out)?;
+    out.write_all(b",\"lives\":[")
+}
+
+/// Ends the line of a list of scenarios.
+pub(crate) fn end_lives<W: Write>(out: &mut W) -> io::Result<()> {
+    out.write_all(b"]}\n")
+}
+
+fn begin_next<W: Write>(is_later: bool, out: &mut W) -> io::Result<()> {
+    out.write_all(if is_later { b",{" } else { b"{" })
+}
+
+/// Prints the next life of a list.
+pub(crate) fn write_next<W: Write>(
+    is_later: bool,
+    played: &Played,
+    options: LifeOptions<'_>,
+    out: &mut W,
+) -> io::Result<()> {
+    begin_next(is_later, out)?;
+    write_life(played, options, out)?;
+    out.write_all(b"}")
+}
+
+/// Prints that memory was refused for the next life of a list.
+pub(crate) fn write_next_unplayed<W: Write>(is_later: bool, out: &mut W) -> io::Result<()> {
+    begin_next(is_later, out)?;
+    write_status("no_memory", out)?;
+    out.write_all(b",\"name\":\"NoMemory\"}")
 }
 
 /// Prints the line of a scenario that isn't played for a fault of its line.

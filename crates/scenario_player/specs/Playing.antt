@@ -1,4 +1,4 @@
--- What is played of a scenario on an empty journal in memory (this project's profile). Lists of events have the newest
+-- What is played of a scenario on a journal in memory (this project's profile). Lists of events have the newest
 -- first, lists of steps and of outputs the oldest first. Steps, sectors and slots are numbered from 0, blocks from 1.
 
 -- Taken for granted: a disk in memory keeps to the model of a device (`Memory` of `disk`), and what a life leaves on a
@@ -7,6 +7,7 @@ use Rattle.std.specs.Prelude.{◌≡◌, ℕ, ◌*◌, Bool, true, false, IsTrue
 use Rattle.std.specs.Option.{option_map_or}
 use Rattle.blocks.specs.FirstSector.{sectors_of}
 use Rattle.disk.specs.State.{State, contents_of, Holds}
+use Rattle.events.specs.declared.input.Event.{Event}
 use Rattle.events.specs.declared.input.Event.TheVariants.{PowerUp}
 use Rattle.events.specs.declared.step.Step.{Step}
 use Rattle.journal.specs.Formats.{IsEmptied}
@@ -19,6 +20,7 @@ use Rattle.ring.specs.Account.{Account, DescribesNothing}
 use Rattle.ring.specs.Slots.{IsAtRest}
 use Rattle.simulator.specs.Scenarios.{Describes}
 use Rattle.unit_start.specs.Events.{pairs_of}
+use Rattle.unit_start.specs.Lives.{IsReady, IsNextNumber}
 use Rattle.whole_lives.specs.Runs.{Lives, durable_by}
 use Rattle.whole_lives.specs.Stops.{AllStand, Stopped, OnlyOpens, IsDone, step_of}
 use Rattle.whole_lives.specs.Written.{LeavesLast}
@@ -55,28 +57,27 @@ abbrev pub is_played : {T : Type 0} → Result T LiveError → Bool
 is_played (Ok x) = true
 is_played (Err error) = is_refusal error
 
--- Its power-up is in block 1. No step has a cause to be refused; or the life stopped at the first one that has.
-abbrev pub PlayEnds : {T : Type 0} → List Step → Result T LiveError → Type 0
-PlayEnds steps (Ok x) = AllStand (starting_with 1) steps
-PlayEnds steps (Err error) = IsTrue (is_refusal error) × Stopped (starting_with 1) steps error
+-- Its power-up is in the block of this number. No step has a cause to be refused; or the life stopped at the first one that
+-- has.
+abbrev pub PlayEnds : {T : Type 0} → ℕ → List Step → Result T LiveError → Type 0
+PlayEnds number steps (Ok x) = AllStand (starting_with number) steps
+PlayEnds number steps (Err error) = IsTrue (is_refusal error) × Stopped (starting_with number) steps error
 
 -- the steps that were carried out: all, or those before the one that was refused
 abbrev pub carried_out : {T : Type 0} → List Step → Result T LiveError → List Step
 carried_out steps (Ok x) = steps
 carried_out steps (Err error) = option_map_or (λ number. take number steps) (step_of error) []
 
--- exactly the outputs of the events that the steps which were carried out made durable, after the power-up
-abbrev pub AreOutputs : {T : Type 0} → Cold → List Step → Result T LiveError → List Released → Type 0
-AreOutputs cold steps ended released =
-    pairs_of (durable_by (PowerUp cold ∷ []) (carried_out steps ended)) ≡ pairs_of (PowerUp cold ∷ []) ++ released
+-- exactly the outputs of the events that the steps which were carried out made durable, after these
+abbrev pub AreOutputs : {T : Type 0} → List Event → List Step → Result T LiveError → List Released → Type 0
+AreOutputs initial steps ended released = pairs_of (durable_by initial (carried_out steps ended)) ≡ pairs_of initial ++ released
 
 -- ---- a life that was played
 
 -- A life of these steps was played on an empty journal of so many slots: `live` answered this on its disk.
-pub record IsPlayed {T : Type 0} (slots : ℕ) (cold : Cold) (steps : List Step) (ended : Result T LiveError) (released : List Released) (image : List ℕ) : Type 0 where
-  -- the disk before the life, and the one that it handed back
+pub record IsPlayed {T : Type 0} (slots : ℕ) (cold : Cold) (steps : List Step) (ended : Result T LiveError) (released : List Released) (new : State) : Type 0 where
+  -- the disk before the life; `new` is the one that it handed back
   pub old : State
-  pub new : State
   -- before it the journal was empty
   pub empty : IsEmpty slots old
   -- the cold movement value that the power-up recorded
@@ -87,12 +88,39 @@ pub record IsPlayed {T : Type 0} (slots : ℕ) (cold : Cold) (steps : List Step)
   pub done : IsDone (PowerUp recorded_cold ∷ []) steps (OnlyOpens 0 [] [] [] recorded_cold old new) ended life.steps_taken life.durable_at_end life.accepted_at_end life.released
   -- where it didn't stop, the newest block is that of its last flush of something pending
   pub last : LeavesLast [] recorded_cold steps ended new
-  -- the image is the disk that it handed back, byte by byte
-  pub image_is : (new.sectors ≡ sectors_of slots) × AreBytesOf new image
+  -- the disk has the size of such a journal
+  pub sectors : new.sectors ≡ sectors_of slots
   -- no step has a cause to be refused, or it stopped at the first one that has
-  pub ends : PlayEnds steps ended
+  pub ends : PlayEnds 1 steps ended
   -- the outputs are those that the definitions say
-  pub outputs : AreOutputs cold steps ended released
+  pub outputs : AreOutputs (PowerUp cold ∷ []) steps ended released
+
+-- A life of these steps was played on a disk that was ready for `durable` and `accepted`: `live` answered this. For the
+-- next life the disk is ready for what is durable and accepted at its end (`ready_at_end` of `life`).
+pub record IsPlayedAfter {T : Type 0} (durable accepted : List Event) (cold : Cold) (steps : List Step) (ended : Result T LiveError) (released : List Released) (old new : State) : Type 0 where
+  -- the events that it found, one of the two
+  pub found : List Event
+  -- the cold movement value that the power-up recorded
+  pub recorded_cold : Cold
+  -- it is a life by the contract of `live`
+  pub life : Lives 0 durable accepted found cold recorded_cold steps old new [] released
+  -- it released exactly what the steps before its end ask for
+  pub done : IsDone (PowerUp recorded_cold ∷ found) steps (OnlyOpens 0 durable accepted found recorded_cold old new) ended life.steps_taken life.durable_at_end life.accepted_at_end life.released
+  -- where it didn't stop, the newest block is that of its last flush of something pending
+  pub last : LeavesLast found recorded_cold steps ended new
+  -- the disk is as large as it was
+  pub sectors : new.sectors ≡ old.sectors
+  -- the number of its power-up's block, the next one
+  pub number : ℕ
+  pub next : IsNextNumber old.sectors (contents_of old) number
+  -- no step has a cause to be refused, or it stopped at the first one that has
+  pub ends : PlayEnds number steps ended
+  -- the outputs are those that the definitions say
+  pub outputs : AreOutputs (PowerUp recorded_cold ∷ found) steps ended released
+
+-- what a disk is ready for it stays ready for
+abbrev pub StaysReady : State → State → Type 0
+StaysReady old new = (durable accepted : List Event) → IsReady 0 durable accepted old → IsReady 0 durable accepted new
 
 -- ---- a scenario that was played
 
@@ -102,6 +130,11 @@ cold_by None own_cold = own_cold
 cold_by (Some given) own_cold = given
 
 -- the life that the bytes of the scenario describe was played
-abbrev pub PlaysOne : {T : Type 0} → List ℕ → Option Cold → ℕ → Result T LiveError → List Released → List ℕ → Type 0
-PlaysOne bytes given slots ended released image =
-    (own_cold : Cold) × (steps : List Step) × Describes bytes own_cold steps × IsPlayed slots (cold_by given own_cold) steps ended released image
+abbrev pub PlaysOne : {T : Type 0} → List ℕ → Option Cold → ℕ → Result T LiveError → List Released → State → Type 0
+PlaysOne bytes given slots ended released new =
+    (own_cold : Cold) × (steps : List Step) × Describes bytes own_cold steps × IsPlayed slots (cold_by given own_cold) steps ended released new
+
+-- the same on a disk that was ready for these events
+abbrev pub PlaysAfter : {T : Type 0} → (durable accepted : List Event) → List ℕ → Option Cold → Result T LiveError → List Released → State → State → Type 0
+PlaysAfter durable accepted bytes given ended released old new =
+    (own_cold : Cold) × (steps : List Step) × Describes bytes own_cold steps × IsPlayedAfter durable accepted (cold_by given own_cold) steps ended released old new

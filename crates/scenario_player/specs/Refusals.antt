@@ -25,3 +25,9 @@ abbrev pub IsCause : List ℕ → ℕ → PlayError → Type 0
 IsCause bytes slots BadSlots = HasNoJournal slots
 IsCause bytes slots (Scenario fault) = FaultOf bytes fault
 IsCause bytes slots NoMemory = Unit {0}
+
+-- the same of a life after others, whose journal has been made
+abbrev pub IsCauseAfter : List ℕ → PlayError → Type 0
+IsCauseAfter bytes BadSlots = ⊥
+IsCauseAfter bytes (Scenario fault) = FaultOf bytes fault
+IsCauseAfter bytes NoMemory = Unit {0}

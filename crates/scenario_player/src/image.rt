@@ -1,10 +1,10 @@
-//! Empty journals in memory, and the bytes of their images.
+//! Journals in memory, and the bytes of their images.
 ghost use Rattle.std.specs.Prelude.{◌≡◌, ◌≤◌, IfOk};
 ghost use Rattle.blocks.specs.FirstSector.{least_slots, most_slots, sectors_of};
 ghost use Rattle.disk.specs.Memory.{memory_state};
-ghost use Rattle.scenario_player.specs.Playing.{IsEmpty, AreBytesOf};
+ghost use Rattle.scenario_player.specs.Playing.{IsEmpty, AreBytesOf, StaysReady};
 
-use disk::{Disk, Memory, SECTOR_BYTES};
+use disk::{Disk, Memory, SECTOR_BYTES, WriteDisk};
 use events::Step;
 use journal::format;
 use ring::sectors_before;
@@ -19,17 +19,22 @@ fn flushes_in(steps: &[Step]) -> u64 {
         .count() as u64
 }
 
-/// An empty journal of so many slots, whose disk has capacity for the calls of a life of these steps.
-pub(crate) fn empty_journal(alloc: Global, slots: u32, steps: &[Step]) -> Result<Memory, NoMemory>
+/// At least as many calls of the device as a life of these steps makes on a journal of so many slots, and then one to
+/// read the image.
+pub(crate) fn calls_of(slots: u32, steps: &[Step]) -> u64 {
+    // An opening calls the device once for each slot and a few times more, and a flush six times, with seven sectors.
+    let for_flushes = flushes_in(steps).saturating_add(16).saturating_mul(8);
+    for_flushes.saturating_add(2 * u64::from(slots))
+}
+
+/// An empty journal of so many slots, whose disk has capacity for so many calls.
+pub(crate) fn empty_journal(alloc: Global, slots: u32, calls: u64) -> Result<Memory, NoMemory>
     requires slots { (least_slots ≤ slots) × (slots ≤ most_slots) }
     ensures empty { IfOk result (λ m. IsEmpty slots (memory_state m)) }
     ensures sectors { IfOk result (λ m. (memory_state m).sectors ≡ sectors_of slots) }
 {
-    // A format calls the device once for each slot and three times more, an opening once for each slot and a few times
-    // more, and a flush six times, with seven sectors.
-    let for_life = flushes_in(steps).saturating_add(16).saturating_mul(8);
-    let for_slots = 4 * u64::from(slots);
-    let calls = for_life.saturating_add(for_slots);
+    // A format calls the device once for each slot and three times more.
+    let calls = calls.saturating_add(2 * u64::from(slots));
     let mut disk = Memory::new(alloc, sectors_before!(u64::from(slots)), calls, calls)?;
     match format(&mut disk, slots) {
         Ok(()) => Ok(disk),
@@ -37,13 +42,17 @@ pub(crate) fn empty_journal(alloc: Global, slots: u32, steps: &[Step]) -> Result
     }
 }
 
-/// The bytes of the image of a journal of so many slots.
-pub(crate) fn image_of(alloc: Global, disk: &mut Memory, slots: u32) -> Result<Vec<u8>, NoMemory>
-    requires slots { slots ≤ most_slots }
-    requires sectors { (memory_state disk.old).sectors ≡ sectors_of slots }
-    ensures { IfOk result (λ image. AreBytesOf (memory_state disk.old) image.items) }
+/// The bytes of the journal image on a disk.
+pub fn image_of(alloc: Global, disk: &mut Memory) -> Result<Vec<u8>, NoMemory>
+    ensures bytes { IfOk result (λ image. AreBytesOf (memory_state disk.old) image.items) }
+    ensures stays { StaysReady (memory_state disk.old) (memory_state disk.new) }
 {
-    let size = sectors_before!(u64::from(slots)) as usize * SECTOR_BYTES;
+    let size = (disk.sectors() as usize)
+        .checked_mul(SECTOR_BYTES)
+        .ok_or(NoMemory)?;
+    if !disk.are_sectors(0, size) {
+        return Err(NoMemory);
+    }
     let mut image = vec![in alloc; 0; size]?;
     match disk.read(0, &mut image) {
         Ok(()) => Ok(image),

@@ -1,5 +1,5 @@
-//! Scenarios that are played on an empty journal in memory: what the unit answers, how its life ends, and the bytes of
-//! the journal image (this project's profile).
+//! Scenarios that are played on a journal in memory, one life after the other: what the unit answers, how each life
+//! ends, and the bytes of the journal image (this project's profile).
 #![tactic(auto)]
 
 mod error;
@@ -8,7 +8,8 @@ mod life;
 mod player;
 
 pub use error::PlayError;
+pub use image::image_of;
 pub use life::{Played, play_life};
 pub use onboard::Released;
-pub use player::play;
+pub use player::{calls_for, play, play_after};
 pub use whole_lives::LiveError;

@@ -1,9 +1,12 @@
-//! One life on an empty journal.
-ghost use Rattle.std.specs.Prelude.{◌≡◌, ◌≤◌, IfOk};
-ghost use Rattle.blocks.specs.FirstSector.{least_slots, most_slots};
-ghost use Rattle.scenario_player.specs.Playing.{is_refusal, is_played, IsPlayed};
+//! One life on a journal in memory.
+ghost use Rattle.std.specs.Prelude.{◌≡◌, ℕ, ◌≤◌, List, IfOk};
+ghost use Rattle.blocks.specs.FirstSector.{least_slots};
+ghost use Rattle.disk.specs.Memory.{memory_state};
+ghost use Rattle.events.specs.declared.input.Event.{Event};
+ghost use Rattle.unit_start.specs.Lives.{IsReady};
+ghost use Rattle.scenario_player.specs.Playing.{is_refusal, is_played, IsEmpty, IsPlayed, IsPlayedAfter};
 
-use crate::image::{empty_journal, image_of};
+use disk::Memory;
 use events::Step;
 use mode_table::Cold;
 use onboard::{AcceptError, FlushError, Released};
@@ -18,8 +21,8 @@ pub struct Played {
     pub ended: Result<(), LiveError>,
     /// The outputs, the oldest first.
     pub released: Vec<Released>,
-    /// The bytes of the journal image.
-    pub image: Vec<u8>,
+    /// The disk that it handed back.
+    pub disk: Memory,
 }
 
 fn is_refusal(error: LiveError) -> bool
@@ -42,24 +45,34 @@ fn is_played(ended: &Result<(), LiveError>) -> bool
     }
 }
 
-/// Plays the life of these steps on an empty journal of so many slots, 2 to 1,048,576. `cold` says whether the train
-/// moved without power. NoMemory where memory is refused for the journal, for an event or for an output. A life that
-/// stopped for a cause of its own is played.
-pub fn play_life(alloc: Global, slots: u32, cold: Cold, steps: &[Step]) -> Result<Played, NoMemory>
-    requires slots { (least_slots ≤ slots) × (slots ≤ most_slots) }
-    ensures { IfOk result (λ played. IsPlayed slots cold steps.now played.ended played.released.items played.image.items) }
+/// Plays the life of these steps on a disk. `cold` says whether the train moved without power. NoMemory where memory is
+/// refused for the journal, for an event or for an output. A life that stopped for a cause of its own is played.
+pub fn play_life(
+    alloc: Global,
+    disk: Memory,
+    cold: Cold,
+    steps: &[Step],
+) -> Result<Played, NoMemory>
+    ensures sectors { IfOk result (λ played. (memory_state played.disk).sectors ≡ (memory_state disk).sectors) }
+
+    // The first life, on an empty journal.
+    ensures first { (slots : ℕ) → least_slots ≤ slots → IsEmpty slots (memory_state disk) →
+        IfOk result (λ played. IsPlayed slots cold steps.now played.ended played.released.items
+        (memory_state played.disk)) }
+
+    // A life on the journal that earlier ones left.
+    ensures after { (durable accepted : List Event) → IsReady 0 durable accepted (memory_state disk) →
+        IfOk result (λ played. IsPlayedAfter durable accepted cold steps.now played.ended played.released.items
+        (memory_state disk) (memory_state played.disk)) }
 {
-    let disk = empty_journal(alloc, slots, steps)?;
     let mut released = Vec::new(alloc);
     let (disk, ended) = live(alloc, disk, cold, steps, &mut released);
     if !is_played(&ended) {
         return Err(NoMemory);
     }
-    let mut disk = disk;
-    let image = image_of(alloc, &mut disk, slots)?;
     Ok(Played {
         ended,
         released,
-        image,
+        disk,
     })
 }

@@ -1,7 +1,7 @@
-"""Run the test cases of one life together, in one process of `etcs_lab play`.
+"""Run test cases together, in one process of `etcs_lab play`.
 
-Their records are read in this process, from the images that `etcs_lab play` writes. A case with several lives, a drive, or a scenario that is no JSON
-object is run by itself (`case_runner.play`), and so is each case if a replay of its image is wanted.
+Their records are read in this process, from the images that `etcs_lab play` writes. A case with a drive, or a scenario that is no JSON object, is run
+by itself (`case_runner.play`), and so is each case if a replay of its image is wanted, and one of several lives that fails.
 """
 import contextlib
 import warnings
@@ -12,11 +12,11 @@ from pathlib import Path
 from .. import etcs_run, program
 from ..journal import played_image
 from ..journal.reading import read
-from ..play import AHEAD, Died, Result, ended, on_a_line, play_images
+from ..play import AHEAD, LONGEST, Died, Result, ended, lives_of, on_a_line, play_images
 from ..program import REFUSED, Failed
 from . import case_runner
 from .case_runner import Missed, Played
-from .cases import Case
+from .cases import Case, Life
 
 
 @dataclass(frozen=True)
@@ -34,9 +34,16 @@ class Outcome:
 
 
 def line_of(case: Case) -> bytes | None:
-    """The scenario of a case on one line; None if the case is run by itself."""
-    life, *more = case.lives
-    if more or life.drive:
+    """The scenario of a case on one line, or a list of those of its lives; None if the case is run by itself."""
+    scenarios = [scenario for life in case.lives if (scenario := scenario_of(life)) is not None]
+    if len(scenarios) < len(case.lives) or sum(map(len, scenarios)) > LONGEST:
+        return None
+    return scenarios[0] if len(scenarios) == 1 else b"[%b]" % b",".join(scenarios)
+
+
+def scenario_of(life: Life) -> bytes | None:
+    """The scenario of a life on one line; None if it is a drive, or can't be on a line."""
+    if life.drive:
         return None
     try:
         return on_a_line(life.scenario.text().encode() if life.scenario else life.path.read_bytes() if life.path else b"")
@@ -55,8 +62,10 @@ def by_itself(case: Case, why: bool, replay: bool = False) -> Outcome:
 
 def records_of(case: Case, result: Result, image: bytes, path: Path | None) -> Played:
     """The records of a case that ran with others; if a path is given, after a replay of the image there, with the causes."""
-    case_runner.check_ended(case.lives[0], ended(result) or "")
-    released = [etcs_run.output_of(one) for one in result.get("outputs", ())]
+    lives = lives_of(result)
+    for life, one in zip(case.lives, lives, strict=True):
+        case_runner.check_ended(life, ended(one) or "")
+    released = [etcs_run.output_of(output) for one in lives for output in one.get("outputs", ())]
     if path is None:
         return case_runner.judged(case, played_image.records(image), released)
     path.write_bytes(image)
@@ -67,13 +76,14 @@ def records_of(case: Case, result: Result, image: bytes, path: Path | None) -> P
 
 def outcome_of(case: Case, result: Result, image: bytes, folder: Path, why: bool) -> Outcome:
     """The outcome of a case that ran with others."""
-    if ended(result) is None:  # such as refused memory
+    lives = lives_of(result)
+    if len(lives) < len(case.lives) or any(ended(life) is None for life in lives):  # such as refused memory
         return by_itself(case, why)
     image = image or played_image.empty(case.slots)
     try:
         return Outcome(records_of(case, result, image, folder / "image" if why else None), image)
     except (Missed, Failed) as failed:
-        return Outcome(failed, image)
+        return by_itself(case, why) if case.lives[1:] else Outcome(failed, image)
 
 
 def play_all(cases: Sequence[Case], why: bool = False, replay: bool = False) -> Generator[Outcome, None, None]:

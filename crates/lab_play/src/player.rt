@@ -1,0 +1,350 @@
+//! Plays the scenarios of a line, and prints its line.
+
+use crate::image_file::write_image;
+use crate::lives_list::scenarios_of;
+use crate::request::{LineFault, Request};
+use crate::result_line::{
+    LifeOptions, Named, Outputs, begin_lives, end_lives, write_fault, write_next,
+    write_next_unplayed, write_played, write_refused, write_unplayed,
+};
+use command_line::lab_status::{Status, reported};
+use disk::Memory;
+use json_values::Outline;
+use scenario_advice::faults_of;
+use scenario_player::{LiveError, PlayError, Played, calls_for, image_of, play, play_after};
+use simulator::{Scenario, ScenarioFault, ends_of};
+use std::alloc::Global;
+use std::fs::File;
+use std::io::Write;
+use std::rt::Files;
+
+/// The scenarios of a file, as far as they were played.
+#[derive(Drop)]
+pub(crate) struct Player<'a> {
+    pub path: &'a str,
+    pub slots: u32,
+    pub outputs: Outputs,
+    pub folder: Option<&'a str>,
+    /// How many lives were played, and lines weren't.
+    pub count: u64,
+    pub all_done: bool,
+}
+
+/// Which scenario it is, and where its text is in its line.
+#[derive(Clone, Copy)]
+pub(crate) struct Source<'v> {
+    pub named: Named<'v>,
+    pub pointer: &'static str,
+    /// Its number in a list, from 0 on.
+    pub element: Option<usize>,
+    /// Whether that place is only likely: nothing is printed of a fault there.
+    pub is_likely: bool,
+}
+
+// The step of the scenario at which a life stopped.
+fn step_of(alloc: Global, scenario: &Scenario, error: LiveError) -> Option<u64> {
+    let place = match error {
+        LiveError::Open(_) => return None,
+        LiveError::Accept(place, _) => place,
+        LiveError::Flush(place, _) => place,
+        LiveError::NoMemory(place) => place,
+    };
+    let Ok(ends) = ends_of(alloc, scenario) else {
+        return None;
+    };
+    let mut step = 0u64;
+    for end in ends.as_slice() {
+        if *end > place {
+            break;
+        }
+        step = step.saturating_add(1);
+    }
+    Some(step)
+}
+
+// Which of some scenarios on one journal it is.
+#[derive(Clone, Copy)]
+enum Turn<'v> {
+    // The only one.
+    Only(Named<'v>),
+    // The first one of a list.
+    First,
+    // A later one of a list.
+    Later,
+}
+
+// What is read of a life's image.
+#[derive(Drop)]
+enum Image {
+    Unread,
+    Read(Vec<u8>),
+    NoMemory,
+}
+
+impl<'a> Player<'a> {
+    // The image of a life, where it is wanted.
+    fn read_image(&self, alloc: Global, digest: bool, disk: &mut Memory) -> Image {
+        if !digest && self.folder.is_none() {
+            return Image::Unread;
+        }
+        match image_of(alloc, disk) {
+            Ok(image) => Image::Read(image),
+            Err(_) => Image::NoMemory,
+        }
+    }
+
+    // Writes the image of a life into the folder, and answers its number.
+    fn keep_image<R: Files<File = File> + AllocGlobal + Eprint>(
+        &self,
+        rt: &R,
+        image: Option<&[u8]>,
+    ) -> Result<Option<u64>, Status> {
+        match (self.folder, image) {
+            (Some(folder), Some(image)) => {
+                write_image(rt, folder, self.count, image)?;
+                Ok(Some(self.count))
+            }
+            _ => Ok(None),
+        }
+    }
+
+    // Prints that memory was refused for a scenario.
+    fn print_unplayed<R: Eprint, W: Write>(
+        &mut self,
+        rt: &R,
+        turn: Turn<'_>,
+        out: &mut W,
+    ) -> Result<(), Status> {
+        self.all_done = false;
+        let written = match turn {
+            Turn::Only(named) => write_unplayed(named, "no_memory", "NoMemory", out),
+            Turn::First => write_next_unplayed(false, out),
+            Turn::Later => write_next_unplayed(true, out),
+        };
+        reported(rt, self.path, written)
+    }
+
+    // Prints a life that was played.
+    fn print_played<R: Files<File = File> + AllocGlobal + Eprint, W: Write>(
+        &mut self,
+        rt: &R,
+        turn: Turn<'_>,
+        scenario: &Scenario,
+        played: &mut Played,
+        digest: bool,
+        out: &mut W,
+    ) -> Result<(), Status> {
+        self.count = self.count.saturating_add(1);
+        let bytes = match self.read_image(rt.alloc(), digest, &mut played.disk) {
+            Image::Unread => None,
+            Image::Read(image) => Some(image),
+            Image::NoMemory => return self.print_unplayed(rt, turn, out),
+        };
+        let image = match &bytes {
+            Some(image) => Some(image.as_slice()),
+            None => None,
+        };
+        let step = match played.ended {
+            Ok(()) => None,
+            Err(error) => {
+                self.all_done = false;
+                step_of(rt.alloc(), scenario, error)
+            }
+        };
+        let options = LifeOptions {
+            outputs: self.outputs,
+            step,
+            digested: if digest { image } else { None },
+            image: self.keep_image(rt, image)?,
+        };
+        let written = match turn {
+            Turn::Only(named) => write_played(named, played, options, out),
+            Turn::First => write_next(false, played, options, out),
+            Turn::Later => write_next(true, played, options, out),
+        };
+        reported(rt, self.path, written)
+    }
+
+    /// Prints the line of a line that memory was refused for.
+    pub(crate) fn print_no_memory<R: Eprint, W: Write>(
+        &mut self,
+        rt: &R,
+        named: Named<'_>,
+        out: &mut W,
+    ) -> Result<(), Status> {
+        self.count = self.count.saturating_add(1);
+        self.print_unplayed(rt, Turn::Only(named), out)
+    }
+
+    // Prints the line of a line whose scenario has a fault.
+    fn print_fault<R: AllocGlobal + Eprint, W: Write>(
+        &mut self,
+        rt: &R,
+        source: Source<'_>,
+        scenario: &Scenario,
+        out: &mut W,
+    ) -> Result<(), Status> {
+        let Ok(outline) = Outline::of(rt.alloc(), scenario.bytes.as_slice()) else {
+            return self.print_no_memory(rt, source.named, out);
+        };
+        let Err(faults) = faults_of(rt.alloc(), scenario, &outline) else {
+            return self.print_no_memory(rt, source.named, out);
+        };
+        let first = faults.first;
+        if let ScenarioFault::NoMemory = first.fault {
+            return self.print_no_memory(rt, source.named, out);
+        }
+        self.count = self.count.saturating_add(1);
+        self.all_done = false;
+        let (number, fault, wanted) = (first.fault.number(), first.fault, first.wanted);
+        let (before, pointer) = (source.pointer, outline.pointer(first.place));
+        reported(rt, self.path, write_refused(source.named, out))?;
+        let begun = match source.element {
+            Some(element) => write!(out, ",\"pointer\":\"{before}/{element}"),
+            None => write!(out, ",\"pointer\":\"{before}"),
+        };
+        reported(rt, self.path, begun)?;
+        let written = writeln!(
+            out,
+            "{pointer}\",\"fault\":{number},\"name\":\"{fault}\",\"wanted\":\"{wanted}\"}}"
+        );
+        reported(rt, self.path, written)
+    }
+
+    /// Prints the line of a line that has a fault.
+    pub(crate) fn print_line_fault<R: Eprint, W: Write>(
+        &mut self,
+        rt: &R,
+        named: Named<'_>,
+        found: &LineFault,
+        out: &mut W,
+    ) -> Result<(), Status> {
+        if let ScenarioFault::NoMemory = found.fault {
+            return self.print_no_memory(rt, named, out);
+        }
+        self.count = self.count.saturating_add(1);
+        self.all_done = false;
+        reported(rt, self.path, write_fault(named, found, out))
+    }
+
+    fn slots_of(&self, request: Request) -> u32 {
+        match request.slots {
+            Some(slots) => slots,
+            None => self.slots,
+        }
+    }
+
+    /// Plays a scenario, and prints its line; whether a line was printed.
+    pub(crate) fn play_one<R: Files<File = File> + AllocGlobal + Eprint, W: Write>(
+        &mut self,
+        rt: &R,
+        source: Source<'_>,
+        scenario: &Scenario,
+        request: Request,
+        out: &mut W,
+    ) -> Result<bool, Status> {
+        match play(
+            rt.alloc(),
+            scenario,
+            request.cold,
+            self.slots_of(request),
+            0,
+        ) {
+            Ok(played) => {
+                let mut played = played;
+                self.print_played(
+                    rt,
+                    Turn::Only(source.named),
+                    scenario,
+                    &mut played,
+                    request.digest,
+                    out,
+                )?;
+            }
+            Err(PlayError::Scenario(_)) if source.is_likely => return Ok(false),
+            Err(PlayError::Scenario(_)) => self.print_fault(rt, source, scenario, out)?,
+            Err(_) => self.print_no_memory(rt, source.named, out)?,
+        }
+        Ok(true)
+    }
+
+    /// Plays the scenarios of a list, each on the journal that the one before left, and prints their line; whether a
+    /// line was printed.
+    pub(crate) fn play_list<R: Files<File = File> + AllocGlobal + Eprint, W: Write>(
+        &mut self,
+        rt: &R,
+        source: Source<'_>,
+        list: &[u8],
+        request: Request,
+        out: &mut W,
+    ) -> Result<bool, Status> {
+        let scenarios = match scenarios_of(rt.alloc(), list, source.pointer) {
+            Ok(scenarios) => scenarios,
+            Err(_) if source.is_likely => return Ok(false),
+            Err(found) => {
+                self.print_line_fault(rt, source.named, &found, out)?;
+                return Ok(true);
+            }
+        };
+        let mut calls = 0u64;
+        for (element, scenario) in scenarios.iter().enumerate() {
+            match calls_for(rt.alloc(), scenario, self.slots_of(request)) {
+                Ok(more) => calls = calls.saturating_add(more),
+                Err(PlayError::Scenario(_)) if source.is_likely => return Ok(false),
+                Err(PlayError::Scenario(_)) => {
+                    let source = Source {
+                        element: Some(element),
+                        ..source
+                    };
+                    self.print_fault(rt, source, scenario, out)?;
+                    return Ok(true);
+                }
+                Err(_) => {
+                    self.print_no_memory(rt, source.named, out)?;
+                    return Ok(true);
+                }
+            }
+        }
+        reported(rt, self.path, begin_lives(source.named, out))?;
+        self.play_in_turn(rt, scenarios.as_slice(), request, calls, out)?;
+        reported(rt, self.path, end_lives(out))?;
+        Ok(true)
+    }
+
+    // Plays scenarios, each on the journal that the one before left, up to one that memory is refused for.
+    fn play_in_turn<R: Files<File = File> + AllocGlobal + Eprint, W: Write>(
+        &mut self,
+        rt: &R,
+        scenarios: &[Scenario],
+        request: Request,
+        calls: u64,
+        out: &mut W,
+    ) -> Result<(), Status> {
+        let mut left: Option<Memory> = None;
+        for scenario in scenarios {
+            let (turn, done) = match left {
+                Some(disk) => (
+                    Turn::Later,
+                    play_after(rt.alloc(), disk, scenario, request.cold),
+                ),
+                None => (
+                    Turn::First,
+                    play(
+                        rt.alloc(),
+                        scenario,
+                        request.cold,
+                        self.slots_of(request),
+                        calls,
+                    ),
+                ),
+            };
+            let Ok(played) = done else {
+                return self.print_unplayed(rt, turn, out);
+            };
+            let mut played = played;
+            self.print_played(rt, turn, scenario, &mut played, request.digest, out)?;
+            left = Some(played.disk);
+        }
+        Ok(())
+    }
+}

@@ -22,8 +22,9 @@ NUMBER = re.compile(r"-?[0-9][0-9_]*(\.[0-9]+)?")
 MOST_BYTES, MOST_DEPTH, MOST_VALUES, MOST_DIGITS, MOST_SHOWN, MOST_MESSAGE = 1 << 20, 64, 1 << 20, 28, 80, 4_000
 """The bounds of a file: its bytes, how deep lists and mappings are nested, and the number of its values, where each alias counts
 as what it refers to; the digits of a number; the length of a text that an error quotes, and of an error."""
-READ_OTHERWISE = "\t?\ufeff"
-"""libyaml allows a tab and a question mark in more places than PyYAML, and counts a column for a byte order mark."""
+READ_OTHERWISE = ("\t", "?", "\ufeff", ">#", "|#")
+"""libyaml allows a tab, a question mark and a comment right after `>` or `|` in more places than PyYAML, and counts a column for a byte
+order mark."""
 PLAIN_TAGS = {f"tag:yaml.org,2002:{name}" for name in
               ("str", "int", "float", "bool", "null", "timestamp", "map", "seq", "value", "merge", "binary")}
 

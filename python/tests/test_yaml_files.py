@@ -16,7 +16,7 @@ LEAST_FILES = 30
 READ_OTHERWISE = (
     "a: b\tc", "a: [1, 2\t]\n\tb: 3", "{a\ufeff: 1, b: 2}", "a:\n  ? b", "- {a: 0.5 m?/s2}", "[a, b", "a: b: c", "a: 1\n b: 2", "- &a [*a]", "*b",
     "a: \x07", "\"\\ud800\"", "\"\\U99999999\"", "!!python/object:os.system x", "a: %b\n%c: d", "a: `b`", "--- a\n--- b\n...\n--- [", "[" * 65 + "]" * 65,
-    "a: |\n  text\n b: 1", "'", "a: \u2028b", "a: x\u0085y: 1",
+    "a: |\n  text\n b: 1", "'", "a: \u2028b", "a: x\u0085y: 1", "a: >#\n  b\n", "a: |#c\n  b\n",
 )
 SAME = ("", "a: 1", "- [a, {b: c}]\n- 'd: e'\n- \"f\\n\"\n- |\n  g\n   h\n", "&a [1]: *a", "a: {b: &c [d, e], f: *c}\n---\n- é\n", "# only a comment\n", "a:\n- b\n-\n")
 

@@ -120,8 +120,8 @@ static uint32_t live(etcs_file *file, etcs_unit *unit) {
     return status == ETCS_UNIT_OK ? flush(file, unit, 1) : status;
 }
 
-/* A power-up that is abandoned after so many sectors: what handing in the last one answered. */
-static uint32_t stopped(etcs_file *file, const char *path, uint32_t cold, long sectors) {
+/* A power-up that is abandoned after so many sectors: the kind of the request that was next. */
+static const char *abandoned(etcs_file *file, const char *path, uint32_t cold, long sectors) {
     etcs_unit unit = {0};
     etcs_unit_request_info request;
     uint8_t bytes[ETCS_UNIT_REQUEST_BYTES];
@@ -131,8 +131,10 @@ static uint32_t stopped(etcs_file *file, const char *path, uint32_t cold, long s
     while (status == ETCS_UNIT_OK && sectors-- > 0 && etcs_unit_request(&unit, &request, bytes, sizeof bytes) == ETCS_UNIT_OK
            && request.kind == ETCS_REQUEST_READ)
         status = etcs_file_serve_(file, &unit, &request, bytes) == ETCS_FILE_OK ? (uint32_t)ETCS_UNIT_OK : file->status;
+    const char *next = status == ETCS_UNIT_OK && etcs_unit_request(&unit, &request, bytes, sizeof bytes) == ETCS_UNIT_OK
+                           ? etcs_request_kind_name((uint32_t)request.kind) : "none";
     (void)etcs_unit_close(&unit);
-    return status;
+    return next;
 }
 
 int main(int count, char **words) {
@@ -147,7 +149,7 @@ int main(int count, char **words) {
     const uint32_t cold = (uint32_t)strtoul(words[3], NULL, 10);
     left = count == 5 ? strtol(words[4], NULL, 10) : -1;
     if (count == 5 && left < 0) {
-        printf("stopped %" PRIu32 " ?\n", stopped(&file, words[2], cold, -1 - left));
+        printf("abandoned before a %s\n", abandoned(&file, words[2], cold, -1 - left));
         return REFUSED;
     }
     uint32_t answer = by_sectors ? etcs_file_open_by_sectors(&file, words[2], &unit, cold) : etcs_file_open(&file, words[2], &unit, cold);

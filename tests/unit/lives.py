@@ -161,7 +161,7 @@ class Pair:
         count = numbers.randrange(1 + self.slots)
         self.other.write_bytes(before)
         status, printed, calls = recorded(self.record, self.other, [*words, -1 - count], text)
-        self.failures.unless((status, printed, after_settling(calls)) == (1, "stopped 24 ?\n", []), f"{name}, stopped after {count} sectors: {status} {printed} {calls}")
+        self.failures.unless((status, printed, after_settling(calls)) == (1, "abandoned before a read\n", []), f"{name}, stopped after {count} sectors: {status} {printed} {calls}")
         self.failures.unless(self.other.read_bytes() == before, f"{name}, stopped after {count} sectors: the file holds other bytes")
         self.stops += 1
 

@@ -227,7 +227,7 @@ def all_read(reference, program, room):
     for _, image, *_ in [*why_rows.by_hand(), *islice(why_rows.more_lives(), 10)]:
         file.write_bytes(image)
         read(reference, program, "why", "--json", file)
-    for _, image, asked, _ in why_rows.groups_by_hand():
+    for _, image, asked, _ in [*why_rows.groups_by_hand(), *why_rows.demands_by_hand()]:
         file.write_bytes(image)
         read(reference, program, "why", "--json", file, str(asked))
     for path in sorted([*TOP.glob("tests/programs/*.json"), *TOP.glob("examples/*/*.json")]):

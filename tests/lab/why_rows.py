@@ -1,8 +1,8 @@
 #!/usr/bin/env python3
 """Images of journals, and what `etcs_lab why` has to print. Hand-written: for each cause of a brake, each kind of what decides a limit and
-each outcome of a balise group, a life and the text of its line. Compared with the plain program (tests/plain/why.py) all lines of the
-examples, of pseudo-random lives, of all formats, and of damaged journals; and tracks without the element that decides the limit: then
-the limit is greater.
+each outcome of a balise group, a life and the text of its line; and what a guard demands by telegrams. Compared with the plain program
+(tests/plain/why.py) all lines of the examples, of pseudo-random lives, of all formats, and of damaged journals; and tracks without the
+element that decides the limit: then the limit is greater.
 
     tests/lab/why_rows.py PROGRAM..     run the program on each image, and compare
 """
@@ -15,6 +15,7 @@ from pathlib import Path
 HERE = Path(__file__).resolve().parent
 sys.path[:0] = [str(HERE), *(str(HERE.parents[1] / part) for part in ("tests", "tests/plain", "tests/hostile"))]
 from compared import Compared, is_same, lines_differ, objects, run  # noqa: E402
+from demand_rows import DEMANDS_AS_JSON, DEMANDS_BY_HAND  # noqa: E402
 from group_rows import GROUPS_AS_JSON, GROUPS_BY_HAND  # noqa: E402
 from group_words import KINDS as GROUP_KINDS  # noqa: E402
 from journal import COLD  # noqa: E402
@@ -100,9 +101,13 @@ IN_EXAMPLES = (
 )
 
 
-def by_hand():
-    for name, inputs, asked, says in (*BY_HAND, *TRIPS_BY_HAND):
+def lives_by_hand(rows):
+    for name, inputs, asked, says in rows:
         yield name, image_of(64, blocks_of([("unknown", inputs)], 3)), asked, says
+
+
+def by_hand():
+    yield from lives_by_hand((*BY_HAND, *TRIPS_BY_HAND))
     for name, inputs, says in LIMITS_BY_HAND:
         yield name, image_of(64, blocks_of([("unknown", inputs)], 3)), len(inputs), says
     made = dict(examples())
@@ -111,8 +116,11 @@ def by_hand():
 
 
 def groups_by_hand():
-    for name, inputs, asked, says in GROUPS_BY_HAND:
-        yield name, image_of(64, blocks_of([("unknown", inputs)], 3)), asked, says
+    yield from lives_by_hand(GROUPS_BY_HAND)
+
+
+def demands_by_hand():
+    yield from lives_by_hand(DEMANDS_BY_HAND)
 
 
 def more_lives():
@@ -166,6 +174,19 @@ class WhyRows(Compared):
         _, data, asked, _ = next(groups_by_hand())
         status, text = self.run(data, "--json", "@", str(asked))
         self.unless(status == 0 and is_same(objects(text)[0].get("groups"), GROUPS_AS_JSON), f"groups as JSON: status {status}, {text}")
+
+    def demands_by_hand(self):
+        """The demands of an event, also where all lines are printed."""
+        for name, data, asked, says in demands_by_hand():
+            status, text = self.run(data, "@", str(asked))
+            found = "".join(text.rstrip("\n").partition("\n  outside the unit")[1:])
+            self.unless(status == 0 and found == says, f"demands by hand: {name}: status {status}, {text}--- wanted in it\n{says}")
+            lines = objects(self.run(data, "--json", "@")[1])
+            events = [line["event"] for line in lines if "demands" in line]
+            self.unless((asked in events) == bool(says), f"demands by hand: {name}: lines of {events}")
+            if name in DEMANDS_AS_JSON:
+                one = objects(self.run(data, "--json", "@", str(asked))[1])[0]
+                self.unless(is_same(one.get("demands"), DEMANDS_AS_JSON[name]), f"demands as JSON: {name}: {one}")
 
     def compare_with_plain(self):
         for number, (name, data) in enumerate(images()):
@@ -222,6 +243,7 @@ class WhyRows(Compared):
     def judged(self):
         self.by_hand()
         self.groups_by_hand()
+        self.demands_by_hand()
         self.compare_with_plain()
         counted = self.taken_away()
         print(f"why: {self.count} comparisons, {self.lines} lines with what decides a limit, {self.differ} differ")

@@ -1,6 +1,7 @@
 #!/usr/bin/env python3
 """Explains why the plain unit brakes, and what decides its limit: each life of an image is replayed from its power-up on, after the head
-before it, and each event has a line at which the brake, the limit, a cause of the brake or the kind of limit cause changes in its life.
+before it, and each event has a line at which the brake, the limit, a cause of the brake or the kind of limit cause changes in its life, or whose
+telegram demands something outside the unit.
 Events whose life can't be replayed have one line with the reason, and so has each block that can't be read.
 
     tests/plain/why.py [--json] IMAGE [EVENT]     print what `etcs_lab why` prints, and end with its status
@@ -8,6 +9,7 @@ Events whose life can't be replayed have one line with the reason, and so has ea
 import sys
 from pathlib import Path
 
+import demand_words
 import output
 import group_words
 from limit_reasons import KINDS, limit_cause
@@ -48,14 +50,17 @@ TRIP_OF_ROW = {6: "staff_distance", 9: "level"}
 
 
 class Reasons:
-    """A life, since which event each cause holds, and by which event Trip was entered and why, while the trip is owed."""
+    """A life, since which event each cause holds, by which event Trip was entered and why, while the trip is owed, and what the telegram of its
+    last event demands."""
 
     def __init__(self, life, number):
         self.life, self.since, self.shown, self.trip = life, {}, None, None
         self.note(number)
 
-    def note(self, number):
+    def note(self, number, telegram=None):
         answer = self.life.now.output
+        self.demands = demand_words.members(telegram, *self.train, self.groups()) if telegram else []
+        self.train = self.life.mode(), self.life.is_overridden()
         held = output.causes(self.life, self.life.mode(), answer.limit)
         self.since = {wanted: self.since.get(wanted, number) for (_, wanted), holds in held.items() if holds}
         self.decides = limit_cause(self.life)
@@ -65,11 +70,14 @@ class Reasons:
         elif not self.life.is_tripped():
             self.trip = None
 
+    def groups(self):
+        return [group_words.members(*group) for group in self.life.now.groups]
+
     def is_new(self):
-        """Whether brake, limit, the causes or the kind of the limit's is another one than at the event before."""
+        """Whether brake, limit, the causes or the kind of the limit's is another one than at the event before, or something is demanded."""
         answer, decides = self.life.now.output, self.decides
         before, self.shown = self.shown, (answer.brake, answer.limit, dict(self.since), decides.kind, decides.number)
-        return self.shown != before
+        return self.shown != before or bool(self.demands)
 
     def numbers(self):
         life = self.life
@@ -84,8 +92,12 @@ class Reasons:
             **dict(zip(("trip_cause", "trip_cause_event", "trip_cause_section"), (*self.trip, TRIPS[self.trip[0]][1]) if self.trip else (None,) * 3)),
             "limit_cause": decides.kind, "limit_cause_speed_m_per_h": decides.speed, "limit_cause_place_cm": decides.place,
             "limit_cause_number": decides.number, "limit_cause_section": KINDS[decides.kind][1],
-            **({"groups": [group_words.members(*group) for group in self.life.now.groups]} if self.life.now.groups else {}),
+            **({"groups": self.groups()} if self.life.now.groups else {}),
         }
+
+    def all_members(self, number):
+        """With the demands."""
+        return self.members(number) | ({"demands": self.demands} if self.demands else {})
 
     def line(self, number):
         (answer, speed, backward, allowed), decides = self.numbers(), self.decides
@@ -121,8 +133,9 @@ class Why(Walk):
         if record["event"][0] == "powerup":
             self.reasons = Reasons(self.life, number)
         else:
-            self.reasons.note(number)
-        self.lines.append((number, self.reasons.is_new(), self.reasons.line(number), self.reasons.members(number)))
+            self.reasons.note(number, record["event"][1] if record["event"][0] == "telegram" else None)
+        said = self.reasons.line(number) + "".join(map(demand_words.line, self.reasons.demands))
+        self.lines.append((number, self.reasons.is_new(), said, self.reasons.all_members(number)))
 
 
 def walk_of(data):

@@ -16,14 +16,17 @@ use Rattle.speed_supervision.specs.declared.cause.LimitCause.{LimitCause}
 use Rattle.lives.specs.Steps.{Step}
 use Rattle.lives.specs.declared.visit.Unknown.{Unknown}
 use Rattle.lives.specs.declared.visit.Unknown.TheVariants as an_unknown
+use Rattle.reasons.specs.Closings.{judged_in}
 use Rattle.reasons.specs.LimitTexts.{limit_reported, limit_name_of}
 use Rattle.reasons.specs.Runs.{runs_of}
 use Rattle.reasons.specs.Reported.{Reasoned, Reasons}
+use Rattle.lab_demands.specs.declared.line.DemandLine.{DemandLine}
 use Rattle.lab_events.specs.LeftOut.{reason_of}
 use Rattle.lab_events.specs.declared.left_out.Reason.{Reason}
 use Rattle.lab_events.specs.declared.left_out.Reason.TheVariants as a_reason
 use Rattle.lab_events.specs.declared.left_out.Stretch.{Stretch}
-use Rattle.lab_why.specs.Lines.{event_line, left_out_line, lost_block_line}
+use Rattle.lab_why.specs.Demanding.{AreDemands}
+use Rattle.lab_why.specs.Lines.{event_line, groups_of, left_out_line, lost_block_line}
 use Rattle.lab_why.specs.declared.course.Course.{Course}
 use Rattle.lab_why.specs.declared.course.Explanation.{Explanation}
 use Rattle.lab_why.specs.declared.line.WhyLine.{WhyLine}
@@ -37,6 +40,7 @@ explanation_of story cause = record {
   limit = (output_at story).limit;
   runs = runs_of story;
   decides = limit_reported (output_at story).limit cause;
+  overridden = (output_at story).indications.overridden;
 }
 
 abbrev pub Explains : Story → Explanation → Type 0
@@ -52,17 +56,23 @@ pub record IsSame (one other : Explanation) : Type 0 where
   pub number : one.decides.number ≡ other.decides.number
 
 -- an event of this number, before which an event of its life was answered so, has a line: it is the one that is asked
--- for; or, where each change is, it is the first of its life, or was answered in another way
-abbrev pub HasLine : Option ℕ → ℕ → Option Explanation → Explanation → Type 0
-HasLine (Some only) event before now = event ≡ only
-HasLine None event None now = Unit {0}
-HasLine None event (Some before) now = IsSame before now → ⊥
+-- for; or, where each change is, it is the first of its life, was answered in another way, or its telegram demands something
+-- of the equipment around the unit
+abbrev pub HasLine : Option ℕ → ℕ → Option Explanation → Explanation → List DemandLine → Type 0
+HasLine (Some only) event before now demands = event ≡ only
+HasLine None event None now demands = Unit {0}
+HasLine None event (Some before) now demands = demands ≡ [] → IsSame before now → ⊥
 
--- this is the line of an event that has one, which counts
-abbrev pub IsEventLine : Option ℕ → Story → ℕ → Option Explanation → Explanation → ℕ → ℕ → Option WhyLine → Type 0
-IsEventLine only story event before now events more line =
-    (HasLine only event before now × (more ≡ one_more events (2 ^ 64 - 1)) × (line ≡ Some (event_line story event now)))
-    ⊎ ((HasLine only event before now → ⊥) × (more ≡ events) × (line ≡ None))
+-- this is the line of an event that has one, which counts, where its telegram demands this
+abbrev pub IsLineWith : Option ℕ → Story → ℕ → Option Explanation → Explanation → List DemandLine → ℕ → ℕ → Option WhyLine → Type 0
+IsLineWith only story event before now demands events more line =
+    (HasLine only event before now demands × (more ≡ one_more events (2 ^ 64 - 1)) × (line ≡ Some (event_line story event now (groups_of story) demands)))
+    ⊎ ((HasLine only event before now demands → ⊥) × (more ≡ events) × (line ≡ None))
+
+abbrev pub IsEventLine : Option ℕ → Story → BlockRecord → Option Explanation → Explanation → ℕ → ℕ → Option WhyLine → Type 0
+IsEventLine only story r before now events more line =
+    (demands : List DemandLine) × AreDemands r.event (judged_in story) before (groups_of story) demands
+    × IsLineWith only story r.number before now demands events more line
 
 -- ---- events of a life that isn't known
 
@@ -137,22 +147,22 @@ Begins (Err unknown) event before run = Follows event before run
 -- ---- .. and reported
 
 -- The last event of a life has this line, if it has one.
-pub record DescribesLife (life : Reasoned) (event : ℕ) (c next : Course) (line : Option WhyLine) : Type 0 where
+pub record DescribesLife (life : Reasoned) (r : BlockRecord) (c next : Course) (line : Option WhyLine) : Type 0 where
   pub explanation : Explanation
   pub events : ℕ
   pub next_is : next ≡ record c { before = Some explanation; events = events }
   pub explains : (story : Story) → Reasons story life → Explains story explanation
-  pub line_is : (story : Story) → Reasons story life → IsEventLine c.only story event c.before explanation c.events events line
+  pub line_is : (story : Story) → Reasons story life → IsEventLine c.only story r c.before explanation c.events events line
 
 -- .. where the life is known; else it is left out
-abbrev pub Describes : Option Reasoned → ℕ → ℕ → Course → Course → Option WhyLine → Type 0
-Describes None life event c next line = (next ≡ left_out life event c) × (line ≡ None)
-Describes (Some known) life event c next line = DescribesLife known event c next line
+abbrev pub Describes : Option Reasoned → ℕ → BlockRecord → Course → Course → Option WhyLine → Type 0
+Describes None life r c next line = (next ≡ left_out life r.number c) × (line ≡ None)
+Describes (Some known) life r c next line = DescribesLife known r c next line
 
 -- a record is run so, and then reported
 abbrev pub RunsAndDescribes : (Option Reasoned → Option Reasoned → Type 0) → ℕ → BlockRecord → Course → Course → Option WhyLine → Type 0
 RunsAndDescribes Runs life r c next line =
-    (run : Option Reasoned) × Runs c.life run × Describes run life r.number (record c { life = run }) next line
+    (run : Option Reasoned) × Runs c.life run × Describes run life r (record c { life = run }) next line
 
 -- ---- steps
 

@@ -1,4 +1,5 @@
 pub mod Courses
+pub mod Demanding
 pub mod Groups
 pub mod Images
 pub mod Lines

@@ -1,11 +1,12 @@
 -- The lines that say why an event was answered so, each as the value that it reports (this project's profile;
 -- docs/reference/json.md). Events are numbered from 0, blocks from 1.
-use Rattle.std.specs.Prelude.{ℕ, ◌-◌, ◌^◌, min, Option, Some, option_map}
+use Rattle.std.specs.Prelude.{ℕ, ◌-◌, ◌^◌, min, Option, Some, List, option_map}
 use Rattle.events.specs.declared.output.Output.{Output}
 use Rattle.kernel.specs.Brake.{rolled_backward}
 use Rattle.kernel.specs.Lives.{Story, past_at}
 use Rattle.kernel.specs.Output.{output_at}
 use Rattle.kernel.specs.declared.causes.BrakeCause.TheVariants as a_cause
+use Rattle.lab_demands.specs.declared.line.DemandLine.{DemandLine}
 use Rattle.lab_events.specs.declared.left_out.Reason.{Reason}
 use Rattle.lab_events.specs.declared.left_out.Stretch.{Stretch}
 use Rattle.lab_replay.specs.declared.line.Verdict.TheVariants as a_verdict
@@ -20,6 +21,7 @@ use Rattle.reasons.specs.declared.trips.TripReport.{TripReport}
 use Rattle.track_picture.specs.History.{speed_of}
 use Rattle.lab_why.specs.Groups.{group_lines}
 use Rattle.lab_why.specs.declared.course.Explanation.{Explanation}
+use Rattle.lab_why.specs.declared.group.GroupLine.{GroupLine}
 use Rattle.lab_why.specs.declared.line.Answer.{Answer}
 use Rattle.lab_why.specs.declared.line.Causes.{Causes}
 use Rattle.lab_why.specs.declared.line.WhyLine.{WhyLine}
@@ -59,12 +61,17 @@ causes_of runs trip limit = record {
   limit_cause_section = limit.kind;
 }
 
--- the line of the last event of a story, of this number, which was answered so
-abbrev pub event_line : Story → ℕ → Explanation → WhyLine
-event_line story event explanation = a_line.Event (record {
+-- the groups that the last event of a story closed
+abbrev pub groups_of : Story → List GroupLine
+groups_of story = group_lines (judged_in story) (closings_of story)
+
+-- the line of the last event of a story, of this number, which was answered so, with groups and demands
+abbrev pub event_line : Story → ℕ → Explanation → List GroupLine → List DemandLine → WhyLine
+event_line story event explanation groups demands = a_line.Event (record {
   answer = answer_in story event (output_at story);
   causes = causes_of explanation.runs (trip_of story) explanation.decides;
-  groups = group_lines (judged_in story) (closings_of story);
+  groups = groups;
+  demands = demands;
 })
 
 -- these events of this life can't be run again

@@ -7,7 +7,6 @@ use Rattle.std.specs.Option.{option_map}
 use Rattle.kernel.specs.Lives.{Story, past_at}
 use Rattle.kernel.specs.Output.{estimate_in, uncertainty_in}
 use Rattle.mode_table.specs.declared.statuses.Cold.{Cold}
-use Rattle.reasons.specs.Closings.{judged_in, closings_of}
 use Rattle.reasons.specs.LimitTexts.{limit_reported}
 use Rattle.reasons.specs.Runs.{runs_of}
 use Rattle.reasons.specs.Trips.{trip_of}
@@ -16,8 +15,7 @@ use Rattle.speed_supervision.specs.declared.cause.LimitCause.{LimitCause}
 use Rattle.unit_start.specs.Releases.{Release}
 use Rattle.whole_lives.specs.Stops.{step_of}
 use Rattle.whole_lives.specs.declared.errors.LiveError.{LiveError}
-use Rattle.lab_why.specs.Groups.{group_lines}
-use Rattle.lab_why.specs.Lines.{answer_in, causes_of}
+use Rattle.lab_why.specs.Lines.{answer_in, causes_of, groups_of}
 use Rattle.lab_why.specs.declared.played.LifeEnd.TheVariants.{Done, Stopped}
 use Rattle.lab_why.specs.declared.played.PlayedOutput.{PlayedOutput}
 use Rattle.lab_why.specs.declared.played.PlayLine.{PlayLine}
@@ -52,7 +50,7 @@ output_line story one step cause = a_line.Output (record {
   answer = answer_in story one.number one.output;
   output = output_in story one step;
   causes = causes_of (runs_of story) (trip_of story) (limit_reported one.output.limit cause);
-  groups = group_lines (judged_in story) (closings_of story);
+  groups = groups_of story;
 })
 
 -- the life came to its end, or at which step of the scenario it stopped, and why

@@ -5,6 +5,7 @@
 #![tactic(auto)]
 
 mod course;
+mod demanding;
 mod ends;
 mod group;
 mod line;

@@ -1,22 +1,22 @@
 //! The lines that say why events were answered so (`docs/reference/json.md`).
-ghost use Rattle.std.specs.Prelude.{◌≡◌, IfOk};
+ghost use Rattle.std.specs.Prelude.{◌≡◌};
 ghost use Rattle.kernel.specs.Lives.{Story};
 ghost use Rattle.reasons.specs.Reported.{Reasons};
 ghost use Rattle.lab_why.specs.Lines.{answer_in, causes_of, event_line, left_out_line};
 
 use crate::course::Explanation;
-use crate::group::{GroupLine, group_lines};
+use crate::group::GroupLine;
 use crate::serializing::{
     write_limit_cause, write_limit_section, write_trip_cause, write_trip_section,
 };
 use events::{Brake, Output};
 use kernel::{BrakeCause, TripCause};
+use lab_demands::DemandLine;
 use lab_events::{Reason, Stretch};
 use lab_replay::{LostBlock, StretchLine, Verdict};
 use line_sinks::{Items, write_brake};
 use reasons::{LimitKind, LimitReport, Reasoning, Runs, TripReport};
 use serde::Serialize;
-use std::alloc::{AllocError, Global};
 
 /// What was answered to an event, and the numbers that causes refer to.
 #[derive(Clone, Copy, Serialize)]
@@ -94,6 +94,9 @@ pub struct EventLine {
     /// The balise groups that the event closed, in their order.
     #[serde(skip_serializing_if = "Items::is_empty")]
     pub groups: Items<GroupLine>,
+    /// What a guard next to the unit demands by the telegram of the event, in their order.
+    #[serde(skip_serializing_if = "Items::is_empty")]
+    pub demands: Items<DemandLine>,
 }
 
 /// A line of an explanation.
@@ -153,24 +156,25 @@ pub(crate) fn causes_of(runs: &Runs, trip: &Option<TripReport>, limit: &LimitRep
     }
 }
 
-/// The line of the last event of a life, of this number. The error is that of memory.
+/// The line of the last event of a life, of this number, with the groups that it closed and the demands of its telegram.
 pub(crate) fn event_line(
-    alloc: Global,
     life: &Reasoning,
     event: u64,
     explanation: &Explanation,
-) -> Result<WhyLine, AllocError>
-    ensures { (story : Story) → Reasons story life.now → IfOk result (λ line. line ≡ event_line story event explanation.now) }
+    groups: Items<GroupLine>,
+    demands: Items<DemandLine>,
+) -> WhyLine
+    ensures { (story : Story) → Reasons story life.now → result ≡ event_line story event explanation.now groups demands }
 {
     let output = life.output();
     let answer = answer_in(life, event, &output);
     let causes = causes_of(&explanation.runs, &life.trip(), &explanation.decides);
-    let groups = group_lines(alloc, life.groups())?;
-    Ok(WhyLine::Event(EventLine {
+    WhyLine::Event(EventLine {
         answer,
         causes,
         groups,
-    }))
+        demands,
+    })
 }
 
 /// The line of events that can't be run again, with the reason.

@@ -148,6 +148,9 @@ impl fmt::Display for EventLine {
         for group in self.groups.as_slice() {
             write!(f, "\n  {group}")?;
         }
+        for demand in self.demands.as_slice() {
+            write!(f, "\n  {demand}")?;
+        }
         Ok(())
     }
 }

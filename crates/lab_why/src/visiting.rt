@@ -10,8 +10,10 @@ ghost use Rattle.lab_why.specs.declared.line.WhyLine.{WhyLine as a_line};
 use crate::course::{
     Course, Explanation, begin_after, explanation_in, finish, has_line, leave_out, pass_gap,
 };
+use crate::demanding::demands_of;
+use crate::group::group_lines;
 use crate::line::{WhyLine, event_line};
-use blocks::Block;
+use blocks::{Block, BlockRecord};
 use events::{Event, Kept};
 use lab_replay::{LostBlock, Verdict};
 use line_sinks::{LineSink, take_if, take_two};
@@ -56,14 +58,18 @@ fn line_of(
     alloc: Global,
     course: &Course,
     life: &Reasoning,
-    event: u64,
+    entry: &BlockRecord,
     explanation: &Explanation,
 ) -> Result<(Option<WhyLine>, u64), NoMemory>
     ensures { (story : Story) → Reasons story life.now → IfOk result (λ found.
-        IsEventLine course.now.only story event course.now.before explanation.now course.now.events found.1 found.0) }
+        IsEventLine course.now.only story entry.now course.now.before explanation.now course.now.events found.1 found.0) }
 {
-    if has_line(course.only, event, &course.before, explanation) {
-        let line = event_line(alloc, life, event, explanation)?;
+    let (number, before) = (entry.number, &course.before);
+    let closed = life.groups();
+    let groups = group_lines(alloc, closed)?;
+    let demands = demands_of(alloc, &entry.event, closed.mode, before, &groups)?;
+    if has_line(course.only, number, before, explanation, &demands) {
+        let line = event_line(life, number, explanation, groups, demands);
         return Ok((Some(line), course.events.saturating_add(1)));
     }
     Ok((None, course.events))
@@ -75,15 +81,14 @@ fn describe(
     course: &mut Course,
     seen: &Seen<'_>,
 ) -> Result<Option<WhyLine>, NoMemory>
-    ensures { IfOk result (Describes course.old.life seen.now.life seen.now.entry.now.number course.old course.new) }
+    ensures { IfOk result (Describes course.old.life seen.now.life seen.now.entry.now course.old course.new) }
 {
-    let event = seen.entry.number;
     let Some(life) = &course.life else {
-        leave_out(course, seen.life, event);
+        leave_out(course, seen.life, seen.entry.number);
         return Ok(None);
     };
     let explanation = explanation_in(life);
-    let (line, events) = line_of(alloc, course, life, event, &explanation)?;
+    let (line, events) = line_of(alloc, course, life, &seen.entry, &explanation)?;
     course.before = Some(explanation);
     course.events = events;
     Ok(line)

@@ -1,5 +1,4 @@
 use Rattle.std.proofs.Common.{ap, ◌∙◌}
-use Rattle.lab_why.specs.Groups.{group_lines}
 use Rattle.lab_why.specs.Lines.{answer_in, causes_of}
 use Rattle.lab_why.specs.declared.line.WhyLine.TheVariants as a_line
 use Rattle.lab_why.proofs.line.event_line.Goals as goal
@@ -9,6 +8,4 @@ returns c = λ story stands.
     let answer = c.answer_in-answer.ensures story stands ∙ ap (answer_in story c.args.event) (c.output-output.ensures story stands) in
     let trip = c.trip.ensures story stands in
     let causes = c.causes_of-causes.ensures ∙ (λ i. causes_of c.args.explanation.now.runs (trip i) c.args.explanation.now.decides) in
-    let reported = c.groups.ensures story stands in
-    let groups = c.in_ok-groups.ensures ∙ (λ i. group_lines (reported.mode_is i) (reported.closings_are i)) in
-    λ i. a_line.Event (record { answer = answer i; causes = causes i; groups = groups i })
+    λ i. a_line.Event (record { answer = answer i; causes = causes i; groups = c.args.groups; demands = c.args.demands })

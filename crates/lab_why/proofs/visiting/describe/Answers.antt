@@ -11,7 +11,7 @@ returns c =
     let explanation = c.explanation_in-explanation.result in
     let line = c.in_ok-line.line in
     let events = c.in_ok-line.events in
-    subst (λ (known : Option Reasoned). Describes known seen.life seen.entry.now.number old (record old { before = Some explanation; events = events }) line)
+    subst (λ (known : Option Reasoned). Describes known seen.life seen.entry.now old (record old { before = Some explanation; events = events }) line)
     (sym c.in-Some.is) (record {
       explanation = explanation;
       events = events;

@@ -1,0 +1,81 @@
+//! A demand, as a line of a listing reports it (`docs/reference/json.md`).
+ghost use Rattle.std.specs.Prelude.{◌≡◌};
+ghost use Rattle.lab_demands.specs.Lines.{counts, demand_line, is_only_for, packet_of};
+
+use crate::naming::{write_action, write_direction, write_finding, write_section, write_sureness};
+use line_sinks::write_mode;
+use mode_table::Mode;
+use serde::Serialize;
+use track_guard::{Action, Demand, Finding, Section, Source, Sureness};
+use vars::{LinkOrientation, ValidityDirection};
+
+/// A demand of the equipment around the unit.
+#[derive(Clone, Copy, Serialize)]
+pub struct DemandLine {
+    /// What is demanded.
+    #[serde(serialize_with = "write_action")]
+    pub demanded: Action,
+    /// The direction in which the group has to be passed for it, where that isn't known; None where it is demanded anyway.
+    #[serde(serialize_with = "write_direction")]
+    pub only_in_direction: Option<LinkOrientation>,
+    /// The mode before the event.
+    #[serde(serialize_with = "write_mode")]
+    pub mode: Mode,
+    /// For what.
+    #[serde(serialize_with = "write_finding")]
+    pub finding: Finding,
+    /// NID_PACKET; None where the whole telegram is refused.
+    pub packet: Option<u8>,
+    /// Where SUBSET-026, issue 2.3.0, says so.
+    #[serde(serialize_with = "write_section")]
+    pub section: Section,
+    /// How sure that is.
+    #[serde(serialize_with = "write_sureness")]
+    pub sureness: Sureness,
+}
+
+// Whether a packet is valid in this direction alone.
+fn is_only_for(direction: LinkOrientation, valid: Option<ValidityDirection>) -> bool
+    ensures { result ≡ is_only_for direction valid }
+{
+    match (direction, valid) {
+        (LinkOrientation::Nominal, Some(ValidityDirection::Nominal)) => true,
+        (LinkOrientation::Reverse, Some(ValidityDirection::Reverse)) => true,
+        _ => false,
+    }
+}
+
+/// Whether a demand is among those of a direction alone; all are where none is named.
+pub(crate) fn counts(only: Option<LinkOrientation>, source: &Source) -> bool
+    ensures { result ≡ counts only source.now }
+{
+    match (only, source) {
+        (None, _) => true,
+        (Some(direction), Source::Packet(place)) => is_only_for(direction, place.direction),
+        (Some(_), Source::Refused(_)) => false,
+    }
+}
+
+fn packet_of(source: &Source) -> Option<u8>
+    ensures { result ≡ packet_of source.now }
+{
+    match source {
+        Source::Packet(place) => Some(place.number),
+        Source::Refused(_) => None,
+    }
+}
+
+/// The line of a demand.
+pub(crate) fn line_of(mode: Mode, only: Option<LinkOrientation>, demand: &Demand) -> DemandLine
+    ensures { result ≡ demand_line mode only demand.now }
+{
+    DemandLine {
+        demanded: demand.action,
+        only_in_direction: only,
+        mode,
+        finding: demand.finding,
+        packet: packet_of(&demand.source),
+        section: demand.finding.section(),
+        sureness: demand.finding.sureness(),
+    }
+}

@@ -12,8 +12,11 @@ from journal import first_sector
 from program_rows import TOP, read
 from random_lists import Numbers
 
+order = list(sys.path)
 sys.path.append(str(TOP / "tests/rows"))
 from asking import rows_of  # noqa: E402
+
+sys.path[:] = order  # tests/plain and tests/lab_package both have a module of rows of tables
 
 SECTOR = 512
 MODES = (0, 1, 2, 3, 4, 6, 7, 8, 9)

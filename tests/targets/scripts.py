@@ -159,13 +159,14 @@ def compare(asked, wanted, *found):
     causes = sum(word == "cause" and int(status) == 0 for word, (_, status, _) in zip(words, answers))
     cuts = sum(word in ("cut", "dies") and int(status) == CUT_KINDS for word, (_, status, _) in zip(words, answers))
     stopped = sum(word == "stops" and int(status) == CUT_KINDS for word, (_, status, _) in zip(words, answers))
+    stops = sum(three == ("stops", "dies", "image") for three in zip(words, words[1:], words[2:]))  # between lives, while no unit is open
     outputs, lives = sum(line.startswith("event ") for line in expected), words.count("open")
     by_sectors = Counter(kind for kind, word in with_kinds(lines) if word == "open")
     decoded = [int(status) for word, (_, status, _) in zip(words, answers) if word == "decode"]
     compared.unless(all(int(status) == NULL_CALLS for word, (_, status, _) in zip(words, answers) if word == "null") and "null" in words, "null pointers aren't answered")
     compared.unless("no such word" not in expected, "a word that the driver doesn't have")
     compared.unless(outputs >= 4 * lives // 3 and cuts >= words.count("cut") // 4 > 0, f"{outputs} outputs of {lives} lives, {cuts} of them cut off")
-    compared.unless(min(by_sectors["0"], by_sectors["1"]) >= lives // 4 and stopped >= words.count("stops") // 4 > 0,
+    compared.unless(min(by_sectors["0"], by_sectors["1"]) >= lives // 4 and 2 * stopped >= stops > 0,
                     f"openings by kind {dict(by_sectors)}, {stopped} cut off while a sector was to be read")
     compared.unless(causes * 10 >= words.count("cause") > 0, f"{causes} of {words.count('cause')} causes are explained")
     compared.unless(len(statuses) >= LEAST_STATUSES, f"{len(statuses)} kinds of answers")

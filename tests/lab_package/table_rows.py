@@ -380,8 +380,8 @@ def in_database(count, name, connection, journal, got, wanted):
 
 def words_agree(count, name, path):
     """The texts about causes that the program prints are those of the package."""
-    line = re.compile(r"; ([^()]*) \(since event \d+, ([^()]*)\)")
-    trip = re.compile(r"; the train was tripped: ([^()]*) \(event \d+, ([^()]*)\)")
+    line = re.compile(r"^  because ([^()]*) \(since event \d+, ([^()]*)\)")
+    trip = re.compile(r"^  the train was tripped: ([^()]*) \(event \d+, ([^()]*)\)")
     lines = list(Run(["why"], path).lines())
     said = {pair for text in lines for pair in line.findall(text)}
     count.same(f"{name}, words", said <= set(causes.CAUSES.values()), True)

@@ -29,7 +29,7 @@ EVERY = 19  # so many altered bytes are passed over
 OF_LAB = 7  # etcs_lab is asked of so many images one
 LEAST, LEAST_WHYS, LEAST_REFUSED = 650, 11_000, 400  # so many images, and events whose causes are compared
 VERDICTS = ("agrees", "record_differs", "head_differs", "before_oldest_block", "gap", "within_block", "after_difference", "unreadable")
-LEFT_OUT = ("trip_cause_section", "limit_cause_section", "groups")
+LEFT_OUT = ("trip_cause_section", "limit_cause_section", "groups", "demands")
 
 
 def images():

@@ -220,7 +220,7 @@ class Whose(Room):
         for text in (LINES, HOST):
             marks = self.times(text)
             self.assertEqual((marks.whose, marks.faults()), (Identity(), []))
-            self.assertTrue(marks.note().endswith("; whose they are: nothing is known"))
+            self.assertTrue(marks.note().endswith(" ppm at most"), marks.note())
 
     def test_checksums(self) -> None:
         marks = self.times(HOST + "unit: 17,a0899320\nvehicle: 1,00000000\n")  # (the checksum that gzip writes of "unit: 17")

@@ -291,8 +291,8 @@ class Times:
 
     def note(self) -> str:
         """The note of each output."""
-        return (f"{NOTE.format(name=shown(self.path.name))}; the unit's clock is taken to run off by {self.drift_ppm} ppm at most; "
-                f"whose they are: {self.whose.text()}")
+        whose = "" if self.whose == Identity() else f"; whose they are: {self.whose.text()}"
+        return f"{NOTE.format(name=shown(self.path.name))}; the unit's clock is taken to run off by {self.drift_ppm} ppm at most{whose}"
 
 
 def columns(journal: Journal) -> Json:

@@ -426,8 +426,7 @@ typedef struct {
 
 /** What the driver entered, and which actions of the driver the unit would accept as its next input. */
 typedef struct {
-    etcs_kept kept;             /**< what the next power-up would find. Identity, running number and train data are never valid after one, so
-                                     only their values are kept, and whether they are valid now isn't reported */
+    etcs_kept kept;             /**< what the next power-up would find: values of which identity, running number and train data are never valid after one */
     uint32_t speed_m_per_h;     /**< of the last reading of this life; 0 before one */
     uint8_t mode;               /**< enum etcs_mode */
     uint8_t accepts[ETCS_ACTIONS]; /**< 1 of each enum etcs_action that would be accepted, at the place of its number, else 0 */
@@ -435,7 +434,13 @@ typedef struct {
     uint8_t accepts_running_number; /**< the same of etcs_unit_running_number */
     uint8_t accepts_train_data; /**< the same of etcs_unit_train_data */
     uint8_t is_revalidated;     /**< 1 where the driver has revalidated since the power-up (SUBSET-026, 5.4), else 0: the emergency brake */
-    uint8_t reserved[7];        /**< zeros */
+    uint8_t identity_status;    /**< of the identity now: enum etcs_datum */
+    uint8_t running_number_status; /**< of the running number */
+    uint8_t train_status;       /**< of the train data */
+    uint8_t gave_identity;      /**< 1 where the driver entered or confirmed the identity since the power-up (SUBSET-026, 5.4), else 0 */
+    uint8_t gave_level;         /**< the same of the level, also where it stayed valid over the power-up */
+    uint8_t gave_train;         /**< the same of the train data */
+    uint8_t has_left;           /**< 1 where the driver started after that or chose shunting; with an identity and a level that is the revalidation */
 } etcs_unit_driver_info;
 
 /** What came of a telegram that may be of an installed track (etcs_telegram_adapt). */
@@ -517,7 +522,7 @@ ETCS_UNIT_ASSERT(sizeof(etcs_kept) == 176u && offsetof(etcs_kept, train) == 8u &
 ETCS_UNIT_ASSERT(sizeof(etcs_unit_driver_info) == 208u && offsetof(etcs_unit_driver_info, speed_m_per_h) == 176u
                  && offsetof(etcs_unit_driver_info, mode) == 180u && offsetof(etcs_unit_driver_info, accepts) == 181u
                  && offsetof(etcs_unit_driver_info, accepts_identity) == 197u && offsetof(etcs_unit_driver_info, is_revalidated) == 200u
-                 && offsetof(etcs_unit_driver_info, reserved) == 201u);
+                 && offsetof(etcs_unit_driver_info, identity_status) == 201u && offsetof(etcs_unit_driver_info, has_left) == 207u);
 ETCS_UNIT_ASSERT(sizeof(etcs_adapted) == 16u && offsetof(etcs_adapted, len) == 4u && offsetof(etcs_adapted, start) == 8u && offsetof(etcs_adapted, bits) == 12u);
 ETCS_UNIT_ASSERT(sizeof(etcs_value_dropped) == 16u && offsetof(etcs_value_dropped, variable) == 8u && offsetof(etcs_value_dropped, bits) == 12u);
 ETCS_UNIT_ASSERT(sizeof(etcs_packet_unused) == 24u && offsetof(etcs_packet_unused, bits) == 8u && offsetof(etcs_packet_unused, number) == 16u

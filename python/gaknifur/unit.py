@@ -149,8 +149,8 @@ class Kept:
 
 @dataclass(frozen=True, slots=True)
 class UnitDriver:
-    """What the driver entered, and which actions of the driver the unit would accept as its next input. Identity, running number
-    and train data are never valid after a power-up: `kept` has only their values."""
+    """What the driver entered, with its statuses, which actions of the driver the unit would accept as its next input, and what of
+    the revalidation is done: identity, level and train data given, and Stand By left."""
 
     kept: Kept
     speed_m_per_h: int
@@ -160,6 +160,13 @@ class UnitDriver:
     accepts_running_number: bool
     accepts_train_data: bool
     is_revalidated: bool
+    identity: Datum
+    running_number: Datum
+    train_data: Datum
+    gave_identity: bool
+    gave_level: bool
+    gave_train: bool
+    has_left: bool
 
 
 @dataclass(frozen=True, slots=True)
@@ -445,7 +452,8 @@ def _kept(kept: _header.etcs_kept) -> Kept:
 def _unit_driver(info: _header.etcs_unit_driver_info) -> UnitDriver:
     return UnitDriver(_kept(info.kept), info.speed_m_per_h, Mode(info.mode), frozenset(one for one in Action if info.accepts[one]),
                       info.accepts_identity != 0, info.accepts_running_number != 0, info.accepts_train_data != 0,
-                      info.is_revalidated != 0)
+                      info.is_revalidated != 0, Datum(info.identity_status), Datum(info.running_number_status), Datum(info.train_status),
+                      info.gave_identity != 0, info.gave_level != 0, info.gave_train != 0, info.has_left != 0)
 
 
 def _carry_out(medium: Writable, request: _header.etcs_unit_request_info, buffer: ctypes.Array[ctypes.c_char]) -> None:

@@ -103,7 +103,9 @@ class History:
                 tripped = True
         return tripped
 
-    def is_revalidated(self):
+    def revalidation(self):
+        """Whether the identity, the level and the train data were given since the power-up, and Stand By was left for Shunting or by a
+        start after the train data."""
         accepted = [entry.accepted for entry in self.entries if entry.accepted]
         given = [at for at, (word, value) in enumerate(accepted)
                  if word == "enter-train-data" or (word, value) == ("confirm", "train-data")]
@@ -111,8 +113,11 @@ class History:
         words = {word for word, _ in accepted}
         identity = "enter-identity" in words or ("confirm", "identity") in accepted
         level = self.begun.level_stands or "choose-level" in words or ("confirm", "level") in accepted
-        return identity and level and ("choose-shunting" in words
-                                       or any(one < other for one in given for other in started))
+        return identity, level, bool(given), "choose-shunting" in words or any(one < other for one in given for other in started)
+
+    def is_revalidated(self):
+        identity, level, _, left = self.revalidation()
+        return identity and level and left
 
     def override_left(self):
         """What is left of the time (None: it has no end) and of the distance of the last accepted Override, by the values in

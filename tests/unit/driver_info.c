@@ -18,7 +18,6 @@ static void reports_nothing(const char *what, etcs_unit *unit) {
 
 static void ask(etcs_unit *unit) {
     etcs_unit_driver_info reported, again;
-    static const uint8_t zeros[sizeof reported.reserved] = {0};
     etcs_unit_state_info before, after;
     is("state", etcs_unit_state(unit, &before), ETCS_UNIT_OK);
     memset(&reported, 0xAA, sizeof reported);
@@ -27,14 +26,15 @@ static void ask(etcs_unit *unit) {
     is("it is repeated", (uint64_t)memcmp(&reported, &again, sizeof again), 0);
     is("state", etcs_unit_state(unit, &after), ETCS_UNIT_OK);
     is("nothing changed", (uint64_t)memcmp(&before, &after, sizeof before), 0);
-    is("zeros", (uint64_t)memcmp(reported.reserved, zeros, sizeof zeros), 0);
     printf("{\"kept\":");
     print_kept(&reported.kept);
     printf(",\"speed\":%lu,\"mode\":\"%s\",\"accepts\":[", (unsigned long)reported.speed_m_per_h, etcs_mode_name(reported.mode));
     for (unsigned i = 0; i < ETCS_ACTIONS; i++)
         printf("%s%u", i ? "," : "", (unsigned)reported.accepts[i]);
-    printf("],\"identity\":%u,\"running_number\":%u,\"train_data\":%u,\"revalidated\":%u}\n", (unsigned)reported.accepts_identity,
+    printf("],\"identity\":%u,\"running_number\":%u,\"train_data\":%u,\"revalidated\":%u", (unsigned)reported.accepts_identity,
            (unsigned)reported.accepts_running_number, (unsigned)reported.accepts_train_data, (unsigned)reported.is_revalidated);
+    printf(",\"statuses\":[\"%s\",\"%s\",\"%s\"],\"given\":[%u,%u,%u,%u]}\n", etcs_datum_name(reported.identity_status), etcs_datum_name(reported.running_number_status),
+           etcs_datum_name(reported.train_status), (unsigned)reported.gave_identity, (unsigned)reported.gave_level, (unsigned)reported.gave_train, (unsigned)reported.has_left);
 }
 
 /* Carries out the requests of the list, releases, and asks; before that nothing is reported. */

@@ -41,7 +41,8 @@ def wanted_of(life):
     del kept["events"], kept["lives"]
     accepts = {name: int(driver.accepts(life, *action)) for name, action in (ACTIONS | ENTRIES).items()}
     return {"kept": kept, "speed": life.speed(), "mode": life.mode(), "accepts": [accepts.get(number, 0) for number in range(16)],
-            **{name: accepts[name] for name in ENTRIES}, "revalidated": int(life.is_revalidated())}
+            **{name: accepts[name] for name in ENTRIES}, "revalidated": int(life.is_revalidated()),
+            "statuses": [life.item(item).status for item in CONFIRMED[:3]], "given": list(map(int, life.revalidation()))}
 
 
 def lists():
@@ -89,6 +90,10 @@ def main(programs):
                     value = one["kept"][name]
                     met[name].add(value["status"] if name in ("level", "position") and value else value and "known")
                 revalidated[one["revalidated"]] += 1
+                for at, status in enumerate(one["statuses"]):
+                    met["now", at].add(status)
+                for at, given in enumerate(one["given"]):
+                    met["given", at].add(given)
             reports += len(found)
     for name, modes in ACCEPTED.items():
         compared.unless(met[name, 1] >= modes, f"{name} is accepted in {sorted(met[name, 1])}, and is to be in {sorted(modes)}")
@@ -96,6 +101,10 @@ def main(programs):
     for name, statuses in STATUSES.items():
         compared.same(f"statuses of {name}", met[name], statuses)
     compared.unless(revalidated[0] and revalidated[1], f"revalidated or not: {dict(revalidated)}")
+    for at, item in enumerate(CONFIRMED[:3]):
+        compared.same(f"statuses of {item} now", met["now", at], {"unknown", "valid", "invalid"})
+    for at in range(4):
+        compared.same(f"part {at} of the revalidation", met["given", at], {0, 1})
     compared.unless(reports >= LEAST_REPORTS and tried >= LEAST_ANSWERS, f"too few: {reports} reports and {tried} answers, {LEAST_REPORTS} and {LEAST_ANSWERS} are wanted")
     return compared.end(f"the driver's keys: {reports} reports compared with the plain program, {tried} answers in C")
 

@@ -61,8 +61,8 @@ pub struct EtcsKept {
     pub national: EtcsNational,
 }
 
-// The status of a datum.
-fn status_number<T: Copy>(datum: &Datum<T>) -> u8
+/// The status of a datum.
+pub fn status_number<T: Copy>(datum: &Datum<T>) -> u8
     ensures { result ≡ status_number datum.now }
 {
     match datum {

@@ -10,7 +10,7 @@ mod options;
 mod outputs;
 
 pub use interface::{ABI, abi_call};
-pub use kept_items::{EtcsKept, EtcsTrain, kept_reported, train_reported};
+pub use kept_items::{EtcsKept, EtcsTrain, kept_reported, status_number, train_reported};
 pub use limits::limit_number;
 pub use national_items::EtcsNational;
 pub use options::{flag, or_zero, place_or_zero};

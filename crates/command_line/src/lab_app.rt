@@ -256,10 +256,10 @@ fn run_app<'a>(alloc: Global) -> Result<Command<'a>, AllocError>
 
 // What the help of `play` prints last.
 const PLAY_HELP: &str = "\
-A line is a JSON object: \"scenario\" is a scenario in the JSON that `etcs run` reads. It may also have \"id\", a text or
-a whole number, \"cold\", 0 to 2, which replaces that of the scenario, \"slots\", which replaces that of --slots, and
-\"sha256\", true where the digest of the journal image is wanted. For each line, also one that can't be played, a line
-is printed.
+A line is a JSON object: \"scenario\" is a scenario in the JSON that `etcs run` reads, or a list of scenarios, each played
+on the journal that the one before left. It may also have \"id\", a text or a whole number, \"cold\", 0 to 2, which
+replaces that of each scenario, \"slots\", which replaces that of --slots, and \"sha256\", true where the digest of the
+journal image is wanted. For each line, also one that can't be played, a line is printed.
 
 Example:
   $ printf '%s\\n' '{\"id\":\"a\",\"scenario\":{\"groups\":[],\"steps\":[{\"clock\":1000}]}}' | etcs_lab play

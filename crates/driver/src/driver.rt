@@ -192,6 +192,13 @@ impl Driver {
         self.revalidation.is_whole()
     }
 
+    /// What was revalidated since the life began.
+    pub fn revalidation(&self) -> Revalidation
+        ensures { result ≡ self.now.revalidation }
+    {
+        self.revalidation
+    }
+
     /// What is to be kept over a power-up.
     pub fn kept(&self) -> Kept
         ensures { result ≡ kept_by self.now }

@@ -29,5 +29,6 @@ pub use laws::{
 };
 pub use occasion::Occasion;
 pub use override_left::OverrideLeft;
+pub use revalidation::Revalidation;
 pub use running_number::RunningNumber;
 pub use train_data::TrainData;

@@ -1,7 +1,7 @@
 -- What the driver entered, and which actions of the driver would be accepted, as C gets it (SUBSET-026, 3.18.3, 4.10 and 5.4;
 -- which actions are accepted: this project's profile). Speeds are metres per hour; lists of events have the newest first.
-use Rattle.std.specs.Prelude.{◌≡◌, ℕ, List, [], ◌∷◌, map, Option, Some, None, IfSome}
-use Rattle.c_numbers.specs.KeptItems.{DescribesKept}
+use Rattle.std.specs.Prelude.{◌≡◌, ℕ, ◌||◌, List, [], ◌∷◌, map, Option, Some, None, IfSome}
+use Rattle.c_numbers.specs.KeptItems.{DescribesKept, status_number}
 use Rattle.c_numbers.specs.Numbers.{flag_of}
 use Rattle.driver.specs.Accepting.{accepts}
 use Rattle.driver.specs.Limits.{Train}
@@ -50,7 +50,16 @@ pub record DescribesDriver (events : List Event) (reported : EtcsUnitDriver) : T
   pub train_data : (train : Train) → reported.accepts_train_data ≡ acceptance (life_of events) (Some (EnterTrainData train))
   -- whether the driver has revalidated since the power-up
   pub revalidated : reported.is_revalidated ≡ flag_of (is_whole (driver_of (life_of events)).revalidation)
-  pub reserved : reported.reserved ≡ 0 ∷ 0 ∷ 0 ∷ 0 ∷ 0 ∷ 0 ∷ 0 ∷ []
+  -- whether what was entered is valid
+  pub identity_status : reported.identity_status ≡ status_number (driver_of (life_of events)).identity
+  pub running_number_status : reported.running_number_status ≡ status_number (driver_of (life_of events)).running_number
+  pub train_status : reported.train_status ≡ status_number (driver_of (life_of events)).train_data
+  -- what of the revalidation is done: the identity, the level and the train data given, and Stand By left, by a start after
+  -- the train data or for Shunting
+  pub gave_identity : reported.gave_identity ≡ flag_of (driver_of (life_of events)).revalidation.identity
+  pub gave_level : reported.gave_level ≡ flag_of (driver_of (life_of events)).revalidation.level
+  pub gave_train : reported.gave_train ≡ flag_of (driver_of (life_of events)).revalidation.train_data
+  pub has_left : reported.has_left ≡ flag_of ((driver_of (life_of events)).revalidation.shunting || (driver_of (life_of events)).revalidation.started)
 
 -- what is reported is of all accepted events, and the newest one is released: all of them are durable
 abbrev pub IsOfReleased : Moored → EtcsUnitDriver → Type 0

@@ -10,7 +10,7 @@ ghost use Rattle.unit_calls.specs.Inputs.{action_by};
 ghost use Rattle.unit_start.specs.Events.{Knows};
 
 use crate::inputs::action_of;
-use c_numbers::{EtcsKept, kept_reported};
+use c_numbers::{EtcsKept, kept_reported, status_number};
 use kernel::State;
 
 /// What the driver entered, and which actions of the driver would be accepted as the next event.
@@ -33,8 +33,20 @@ pub struct EtcsUnitDriver {
     pub accepts_train_data: u8,
     /// 1 where the driver has revalidated since the power-up.
     pub is_revalidated: u8,
-    /// 0.
-    pub reserved: [u8; 7],
+    /// The status of the identity: 0 unknown, 1 valid, 2 invalid.
+    pub identity_status: u8,
+    /// The status of the running number.
+    pub running_number_status: u8,
+    /// The status of the train data.
+    pub train_status: u8,
+    /// 1 where the driver gave or confirmed the identity since the power-up.
+    pub gave_identity: u8,
+    /// 1 where the driver gave or confirmed the level, or it stayed valid.
+    pub gave_level: u8,
+    /// 1 where the driver gave or confirmed the train data.
+    pub gave_train: u8,
+    /// 1 where the driver started after that, or chose Shunting.
+    pub has_left: u8,
 }
 
 // Whether the action of this number would be accepted; 0 where there is none.
@@ -71,26 +83,15 @@ fn acceptances(state: &State) -> [u8; 16]
     ]
 }
 
-// Whether the driver has revalidated since the power-up.
-fn is_revalidated(state: &State) -> bool
-    ensures { (events : List Event) → Knows state.now events → result ≡ is_whole (driver_of (life_of events)).revalidation }
-{
-    !state.output().indications.not_revalidated
-}
-
-// 1 where it is so.
-fn revalidated(state: &State) -> u8
-    ensures { (events : List Event) → Knows state.now events → result ≡ flag_of (is_whole (driver_of (life_of events)).revalidation) }
-{
-    u8::from(is_revalidated(state))
-}
-
 /// What the driver entered, and which actions would be accepted, after the events that a state represents.
 pub fn driver_reported(state: &State) -> EtcsUnitDriver
     ensures { (events : List Event) → Knows state.now events → DescribesDriver events result }
 {
     // An entry is accepted where the choice of a level is, whatever is entered.
     let accepts_entry = acceptance(state, 1);
+    let driver = state.driver();
+    let entered = driver.kept();
+    let given = driver.revalidation();
     EtcsUnitDriver {
         kept: kept_reported(&state.kept()),
         speed: state.motion().speed.get(),
@@ -99,7 +100,13 @@ pub fn driver_reported(state: &State) -> EtcsUnitDriver
         accepts_identity: accepts_entry,
         accepts_running_number: accepts_entry,
         accepts_train_data: accepts_entry,
-        is_revalidated: revalidated(state),
-        reserved: [0; 7],
+        is_revalidated: u8::from(given.is_whole()),
+        identity_status: status_number(&entered.identity),
+        running_number_status: status_number(&entered.running_number),
+        train_status: status_number(&entered.train_data),
+        gave_identity: u8::from(given.identity),
+        gave_level: u8::from(given.level),
+        gave_train: u8::from(given.train_data),
+        has_left: u8::from(given.shunting || given.started),
     }
 }

@@ -441,7 +441,9 @@ class etcs_kept(Structure):
 class etcs_unit_driver_info(Structure):
     _fields_ = [("kept", etcs_kept), ("speed_m_per_h", c_uint32), ("mode", c_uint8), ("accepts", c_uint8 * 16),
                 ("accepts_identity", c_uint8), ("accepts_running_number", c_uint8), ("accepts_train_data", c_uint8),
-                ("is_revalidated", c_uint8), ("reserved", c_uint8 * 7)]
+                ("is_revalidated", c_uint8), ("identity_status", c_uint8), ("running_number_status", c_uint8),
+                ("train_status", c_uint8), ("gave_identity", c_uint8), ("gave_level", c_uint8), ("gave_train", c_uint8),
+                ("has_left", c_uint8)]
 
 
 class etcs_adapted(Structure):

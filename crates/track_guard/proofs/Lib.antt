@@ -1,3 +1,4 @@
 mod Applying
+mod Directions
 mod Looking
 mod Using

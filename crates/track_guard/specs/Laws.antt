@@ -1,6 +1,6 @@
 -- Laws of the demands (the table: this project's profile).
-use Rattle.std.specs.Prelude.{◌≡◌, ◌↔◌, ℕ, ◌==◌, Bool, true, false, List, [], ◌∷◌, ◌++◌, drop, Some}
-use Rattle.std.specs.List.{AllByRecursion as Each, AllZip, Contains}
+use Rattle.std.specs.Prelude.{◌≡◌, ◌↔◌, ℕ, ◌==◌, Bool, true, false, ◌&&◌, List, [], ◌∷◌, ◌++◌, drop, Option, Some, None}
+use Rattle.std.specs.List.{AllByRecursion as Each, AllZip, Contains, filter}
 use Rattle.bits.specs.Bits.{bits_of}
 use Rattle.bits.specs.Layout.{Begins}
 use Rattle.mode_table.specs.Packets.{uses}
@@ -10,11 +10,14 @@ use Rattle.telegram.specs.Telegrams.{Carries}
 use Rattle.telegram.specs.declared.message.Telegram.{Telegram}
 use Rattle.telegram.specs.declared.fault.TelegramFault.{TelegramFault}
 use Rattle.track_packets.specs.declared.listing.PacketPlace.{PacketPlace}
-use Rattle.track_guard.specs.Demands.{before_infill, concerns, demands_in, fault_found, packets_found}
+use Rattle.vars.specs.declared.linking.LinkOrientation.{LinkOrientation}
+use Rattle.vars.specs.declared.linking.LinkOrientation.TheVariants.{Nominal, Reverse}
+use Rattle.track_guard.specs.Demands.{before_infill, concerns, demands_in, demands_of, fault_found, packets_found}
 use Rattle.track_guard.specs.Findings.{finding_in, is_endless}
 use Rattle.track_guard.specs.Table.{action_by, table}
 use Rattle.track_guard.specs.declared.demanding.Demand.{Demand}
 use Rattle.track_guard.specs.declared.demanding.Situation.{Situation}
+use Rattle.track_guard.specs.declared.demanding.Source.{Source}
 use Rattle.track_guard.specs.declared.demanding.Source.TheVariants as sources
 
 -- the bits from the first one of a packet on
@@ -71,3 +74,27 @@ UsedDemandsNothing =
 
 abbrev pub RefusedIsNeverSilent : Type 0
 RefusedIsNeverSilent = (s : Situation) (bytes : List ℕ) (fault : TelegramFault) → (d : Demand) × (fault_found s bytes (Some fault) ≡ d ∷ [])
+
+-- ---- where the direction isn't known, what is demanded is what both directions demand
+
+-- the same train, passing the group in a direction; None where that isn't known
+abbrev pub passing : Option LinkOrientation → Situation → Situation
+passing direction s = record { mode = s.mode; direction = direction; overridden = s.overridden }
+
+-- A demand is made where the direction isn't known exactly where it is made in each direction.
+abbrev pub UnknownDemandsWhatEachDoes : Type 0
+UnknownDemandsWhatEachDoes =
+    (s : Situation) (bytes : List ℕ) (fault : Option TelegramFault) (d : Demand)
+    → Contains (demands_of (passing None s) bytes fault) d
+    ↔ (Contains (demands_of (passing (Some Nominal) s) bytes fault) d × Contains (demands_of (passing (Some Reverse) s) bytes fault) d)
+
+-- found in a telegram that is refused, or in a packet that is valid in both directions
+abbrev pub is_either_way : Source → Bool
+is_either_way (sources.Packet p) = concerns p.direction (Some Nominal) && concerns p.direction (Some Reverse)
+is_either_way (sources.Refused fault) = true
+
+-- Of the demands in a direction, those found in a packet for that direction only are left out, and no other. Their order stays.
+abbrev pub OnlyOneWayIsLeftOut : Type 0
+OnlyOneWayIsLeftOut =
+    (s : Situation) (bytes : List ℕ) (fault : Option TelegramFault) (passed : LinkOrientation)
+    → demands_of (passing None s) bytes fault ≡ filter (λ d. is_either_way d.source) (demands_of (passing (Some passed) s) bytes fault)

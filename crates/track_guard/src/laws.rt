@@ -1,6 +1,6 @@
 //! Laws of the table and of the guard.
 ghost use Rattle.track_guard.specs.Guarding.{OnlyAdds, TripIsHeld, WarningChangesNothing};
-ghost use Rattle.track_guard.specs.Laws.{AllAreLookedAt, EachByItself, RefusedIsNeverSilent, RowsAreDemanded, UsedDemandsNothing};
+ghost use Rattle.track_guard.specs.Laws.{AllAreLookedAt, EachByItself, OnlyOneWayIsLeftOut, RefusedIsNeverSilent, RowsAreDemanded, UnknownDemandsWhatEachDoes, UsedDemandsNothing};
 ghost use Rattle.track_guard.specs.Worked.{Worked};
 
 /// A law: what packets demand is each row of the table that applies to one of them, and no other demand.
@@ -26,6 +26,13 @@ pub fn used_in_full_demands_nothing()
 /// A law: a telegram that is refused demands something in every mode.
 pub fn refused_telegrams_are_never_silent()
     ensures { RefusedIsNeverSilent }
+{}
+
+/// A law: where the direction isn't known, a telegram demands what it demands in each direction: in one, the packets that
+/// are valid for that one only demand more, and nothing else does.
+pub fn unknown_direction_demands_what_each_does()
+    ensures each { UnknownDemandsWhatEachDoes }
+    ensures left_out { OnlyOneWayIsLeftOut }
 {}
 
 /// A law: a guard never takes away from the unit's brake; one that warns leaves it as it is; a strict one that heard a demand

@@ -22,6 +22,6 @@ pub use guard_calls::{EtcsGuard, acknowledge_call, begin_call, command_call, hea
 pub use laws::{
     all_packets_are_looked_at, each_packet_is_judged_by_itself, guard_only_adds_braking,
     refused_telegrams_are_never_silent, rows_are_demanded_and_no_others, rows_worked_by_hand,
-    used_in_full_demands_nothing,
+    unknown_direction_demands_what_each_does, used_in_full_demands_nothing,
 };
 pub use situation::EtcsSituation;

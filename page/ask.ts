@@ -3,13 +3,13 @@
 import {imageTexts, lostTexts, replayText, slotText} from "./answers";
 import {briefRows} from "./brief";
 import {Calls, END} from "./calls";
-import {bytesOfMarks, Chosen, isNextTo, misfit, MOST_BYTES, sorted, whenChosen} from "./choosing";
+import {Chosen, isNextTo, marksIn, misfit, MOST_BYTES, sorted, whenChosen} from "./choosing";
 import {Day, utcText} from "./day";
 import {at, make, say, show} from "./dom";
 import {EventView} from "./eventview";
 import {Findings, offerToSave} from "./evidence";
-import {areStrangers, identityIn, identityText} from "./identity";
-import {AskedImage, Given, strangersText} from "./image";
+import {identityIn, identityText, Named, strangers} from "./identity";
+import {AskedImage, Given, namedBy, namedByMarks} from "./image";
 import {ImageList} from "./imagelist";
 import {Lists} from "./lists";
 import {lastOf} from "./lives";
@@ -35,7 +35,7 @@ export class Ask {
     /** The link that this page wrote itself, for the image before. */
     private ownLink = "";
     /** What waits until it is said that a stranger is wanted. */
-    private waiting: Given[] = [];
+    private waiting: (() => void)[] = [];
     private readonly day = new Day(() => this.reckon());
     private readonly event: EventView;
     private readonly lists = new Lists(this.day, event => this.chooseEvent(event));
@@ -100,11 +100,8 @@ export class Ask {
             const named = this.images.find(({ name }) => isNextTo(kind, file, name));
             const image = named ?? (alone.length === 1 && !chosen.length ? this.image : undefined);
             if (!image) this.refuse(this.images.length ? SAY.whose(file.name) : SAY.noImageYet);
-            else if (kind === "marks") {
-                image.marks = { name: file.name, bytes: await bytesOfMarks(file) };
-                image.reckon(this.day.drift);
-                this.showDay(image);
-            } else await this.takeIdentity(image, file);
+            else if (kind === "marks") await this.takeMarks(image, file);
+            else await this.takeIdentity(image, file);
         }
     }
 
@@ -114,29 +111,44 @@ export class Ask {
         else if (this.images.length >= MOST_IMAGES) this.refuse(SAY.tooMany(name, MOST_IMAGES));
         else if (bytes > MOST_BYTES) this.refuse(SAY.tooMuch(name));
         else {
-            const read = marks && { name: marks.name, bytes: await bytesOfMarks(marks) };
             const whose = identity && await identityIn(identity);
             if (typeof whose === "string" && identity) this.refuse(SAY.noIdentity(identity.name, whose));
-            this.offer({ name, file, marks: read, identity: typeof whose === "string" ? null : whose, slots: null });
+            const given = {
+                ...{ name, file, slots: null },
+                marks: marks && await marksIn(marks),
+                identity: typeof whose === "string" ? null : whose
+            };
+            const others = this.images.flatMap(({ named }) => named);
+            this.offer([...namedBy(name, given.identity), ...namedByMarks(given.marks)], others, () => this.add(given));
         }
+    }
+
+    private async takeMarks(image: AskedImage, file: File): Promise<void> {
+        const marks = await marksIn(file);
+        // (the marks that these replace don't count)
+        const others = this.images.flatMap(one => one === image ? one.namedByIdentity : one.named);
+        this.offer(namedByMarks(marks), others, () => {
+            image.marks = marks;
+            image.reckon(this.day.drift);
+            this.showDay(image);
+        });
     }
 
     private async takeIdentity(image: AskedImage, file: File): Promise<void> {
         const whose = await identityIn(file);
         if (typeof whose === "string") return this.refuse(SAY.noIdentity(file.name, whose));
         image.identity = whose;
-        const other = this.images.find(one => one !== image && areStrangers(whose, one.identity));
-        if (other) this.refuse(strangersText(image.given, whose, other));
+        const found = strangers(image.named, this.images.filter(one => one !== image).flatMap(({ named }) => named));
+        if (found) this.refuse(strangersText(found));
         this.showFacts();
     }
 
-    /** Adds an image, unless it is of another unit or vehicle: then it is asked. */
-    private offer(given: Given): void {
-        const other = this.images.find(({ identity }) => areStrangers(given.identity, identity));
-        if (!other) return this.add(given);
-        this.waiting.push(given);
-        const said = at("strangers-said").textContent ?? "";
-        say("strangers-said", [said, strangersText(given, given.identity, other)].filter(text => text).join(" "));
+    /** Takes what is handed over, unless it is of another unit or vehicle than others or itself: then it asks. */
+    private offer(some: Named[], others: Named[], act: () => void): void {
+        const found = strangers(some, others);
+        if (!found) return act();
+        this.waiting.push(act);
+        say("strangers-said", [at("strangers-said").textContent, strangersText(found)].filter(text => text).join(" "));
         at("strangers").hidden = false;
     }
 
@@ -145,7 +157,7 @@ export class Ask {
         this.waiting = [];
         at("strangers").hidden = true;
         say("strangers-said", "");
-        for (const one of isWanted ? waiting : []) this.add(one);
+        for (const act of isWanted ? waiting : []) act();
     }
 
     /** Asks an image instead of all others. */
@@ -394,3 +406,7 @@ export class Ask {
 }
 
 function whyText(status: number): string { return STATUSES[status] ?? `status ${status}`; }
+
+function strangersText([one, other]: [Named, Named]): string {
+    return SAY.strangers(one.name, identityText(one.whose), other.name, identityText(other.whose));
+}

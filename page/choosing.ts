@@ -1,8 +1,9 @@
 // Files that are dropped on the page or chosen: an image, and marks of the time of day for it.
 import {at} from "./dom";
+import {MarksFile} from "./image";
 import {SECTOR} from "./layouts";
 import {SAY} from "./texts";
-import {looksLikeMarks} from "./times";
+import {looksLikeMarks, readMarks} from "./times";
 
 export const MOST_BYTES = 512 * 1024 * 1024;
 const MOST_OF_MARKS = 16 * 1024 * 1024;
@@ -68,7 +69,10 @@ export function misfit(file: File): string {
     return file.size > MOST_BYTES ? SAY.tooBig(file.name) : file.size < SECTOR ? SAY.tooSmall(file.name) : "";
 }
 
-/** The bytes of a file of marks; null where it has too many. */
-export async function bytesOfMarks(file: File): Promise<Uint8Array|null> {
-    return file.size > MOST_OF_MARKS ? null : new Uint8Array(await file.arrayBuffer());
+/** The marks of a file. */
+export async function marksIn(file: File): Promise<MarksFile> {
+    const { name } = file;
+    if (file.size > MOST_OF_MARKS) return { name, read: SAY.tooManyMarks(name) };
+    const read = readMarks(new Uint8Array(await file.arrayBuffer()));
+    return { name, read: typeof read === "string" ? `${name}: ${read}.` : read };
 }

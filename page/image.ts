@@ -2,20 +2,19 @@
 import {Braking} from "./braking";
 import {counted} from "./brief";
 import {OK, Records} from "./calls";
-import {Identity, identityText} from "./identity";
+import {Identity, Named} from "./identity";
 import {Block, Facts, Replay, Slot, Why} from "./layouts";
 import {Intervention, LifeRange} from "./lives";
 import {Head, Report, Unwritten, WhyReport} from "./messages";
 import {Finding} from "./plausibility";
 import {Signals} from "./signals";
-import {SAY} from "./texts";
-import {NoMarks, Times, Utc} from "./times";
+import {MarksRead, Times, Utc} from "./times";
 import {verdictOf} from "./verdict";
 
-/** A file of marks; of one that is too long the bytes aren't read. */
+/** A file of marks; of one that can't be used, why. */
 export interface MarksFile {
     name: string;
-    bytes: Uint8Array|null
+    read: MarksRead|string
 }
 /** What is handed over. */
 export interface Given {
@@ -104,15 +103,13 @@ export class AskedImage {
     reckon(drift: number): void {
         const { marks, records } = this;
         if (!marks || !records) return;
-        this.times = null;
-        this.marksFault = marks.bytes ? "" : SAY.tooManyMarks(marks.name);
-        try {
-            if (marks.bytes) this.times = new Times(marks.name, marks.bytes, records, drift);
-        } catch (error) {
-            if (!(error instanceof NoMarks)) throw error;
-            this.marksFault = `${marks.name}: ${error.message}.`;
-        }
+        this.times = typeof marks.read === "string" ? null : new Times(marks.name, marks.read, records, drift);
+        this.marksFault = typeof marks.read === "string" ? marks.read : "";
     }
+
+    get namedByIdentity(): Named[] { return namedBy(`${this.letter} (${this.name})`, this.identity); }
+    /** Whose it is, by its identity and its marks. */
+    get named(): Named[] { return [...this.namedByIdentity, ...namedByMarks(this.marks, this.letter)]; }
 
     /** The time of day of a record's moment. */
     utc(n: number): Utc|null {
@@ -146,7 +143,10 @@ export class AskedImage {
     }
 }
 
-/** That something handed over is of another unit or vehicle than an image. */
-export function strangersText({ name }: Given, whose: Identity|null, other: AskedImage): string {
-    return SAY.strangers(name, identityText(whose), `${other.letter} (${other.name})`, identityText(other.identity));
+export function namedBy(name: string, whose: Identity|null): Named[] { return whose ? [{ name, whose }] : []; }
+
+/** Whose marks are, of an image with a letter where it has one. */
+export function namedByMarks(marks: MarksFile|null, letter = ""): Named[] {
+    if (!marks || typeof marks.read === "string") return [];
+    return namedBy(letter ? `${letter} (${marks.name})` : marks.name, marks.read.whose);
 }

@@ -2,6 +2,8 @@
 // reckoning and in the same words. Marks are outside the journal and outside the proof. Sums are in millionths of a
 // millisecond.
 import {Records} from "./calls";
+import {spelled, stripped} from "./escaping";
+import {Identity, identityText, isIdentityLine, withLine} from "./identity";
 
 export interface Mark {
     line: number;
@@ -12,6 +14,16 @@ export interface Mark {
     utc: number;
     uncertainty: number;
     source: string
+}
+/** What a file of marks has. */
+export interface MarksRead {
+    marks: Mark[];
+    /** What is said of lines that are no marks. */
+    wrong: string[];
+    /** The part of a line that a loss of power left at the end. */
+    cut: string;
+    /** Whose the marks are. */
+    whose: Identity
 }
 /** What a mark says of a moment of a life: the time of day was no earlier and no later. */
 interface Bound {
@@ -34,23 +46,7 @@ const WANTED =
     "life and moment_ms, or event; utc as 2026-03-01T10:02:11.000Z; uncertainty_ms; source";
 /** The times of day that can be written: of the years 1 to 9999. */
 const EARLIEST = Date.parse("0001-01-01T00:00:00Z"), LATEST = Date.parse("9999-12-31T23:59:59.999Z");
-const HIDDEN = /[\p{Cc}\p{Cf}\p{Cs}\p{Co}\p{Cn}\p{Zl}\p{Zp}]/gu;
-const SPACE = "[\\t-\\r\\x1c-\\x20\\x85\\xa0\\u1680\\u2000-\\u200a\\u2028\\u2029\\u202f\\u205f\\u3000]+";
-const STRIP = new RegExp(`^${SPACE}|${SPACE}$`, "g");
 const WRITTEN = /^(\d{4})-(\d\d)-(\d\d)T(\d\d):(\d\d):(\d\d)(?:\.(\d+))?Z$/;
-
-/** A file that isn't one of marks, with the reason. */
-export class NoMarks extends Error {}
-
-/** A text on one line, with each character that can't be seen spelled. */
-export function spelled(text: string): string {
-    return text.replace(HIDDEN, one => {
-        const number = one.codePointAt(0) ?? 0, digits = number.toString(16);
-        return number < 0x100 ? `\\x${digits.padStart(2, "0")}`
-            : number < 0x10000 ? `\\u${digits.padStart(4, "0")}`
-                               : `\\U${digits.padStart(8, "0")}`;
-    });
-}
 
 /** A time of day, in ISO 8601. */
 export function iso(utc: number): string { return new Date(utc).toISOString(); }
@@ -124,7 +120,7 @@ function markOf(line: number, text: string): Mark|null {
     const row = fieldsOf(text);
     if (row?.length !== COLUMNS) return null;
     const [life, moment, event] = row.slice(0, 3).map(numberOf), uncertainty = numberOf(row[4] ?? "");
-    const utc = utcOf(row[3] ?? ""), source = (row[5] ?? "").replace(STRIP, "");
+    const utc = utcOf(row[3] ?? ""), source = stripped(row[5] ?? "");
     if (life === undefined || moment === undefined || event === undefined || uncertainty === null || utc === null)
         return null;
     if ([life, moment, event, uncertainty].some(Number.isNaN) || moment === GREATEST || !source) return null;
@@ -132,23 +128,24 @@ function markOf(line: number, text: string): Mark|null {
     return { line, life, moment, event, utc, uncertainty, source: spelled(source) };
 }
 
-/** The marks of a file, what is said of lines that are none, and the part of a line that a loss of power left at its
- * end. Where there are no checksums, empty lines and lines that begin with # are passed over. A wrong line loses
- * itself only. */
-export function readMarks(bytes: Uint8Array): {marks: Mark[]; wrong: string[]; cut: string} {
+/** The marks of a file, or why it has none. Where there are no checksums, empty lines and lines that begin with # are
+ * passed over. A wrong line loses itself only. */
+export function readMarks(bytes: Uint8Array): MarksRead|string {
     const lines = new TextDecoder("utf-8", { ignoreBOM: true }).decode(bytes).split("\n"), marks: Mark[] = [];
     const first = (lines[0] ?? "").replace(/\r+$/, ""), wrong: string[] = [];
-    if (first !== FIRST && first !== CHECKED)
-        throw new NoMarks(`line 1 isn't ${FIRST}, nor that with ,crc32 at its end`);
+    let whose: Identity = {};
+    if (first !== FIRST && first !== CHECKED) return `line 1 isn't ${FIRST}, nor that with ,crc32 at its end`;
     lines.slice(1, -1).forEach((line, n) => {
-        if (first === FIRST && (!line.replace(STRIP, "") || line.startsWith("#"))) return;
+        if (first === FIRST && (!stripped(line) || line.startsWith("#"))) return;
         const text = line.replace(/\r+$/, ""), content = first === FIRST ? text : unchecked(text);
+        const named = content !== null && isIdentityLine(content) ? withLine(whose, content) : null;
         const mark = content === null ? null : markOf(n + 2, content.replace(/\r+$/, ""));
-        if (mark) marks.push(mark);
+        if (named) whose = named;
+        else if (mark) marks.push(mark);
         else if (content === null) wrong.push(`line ${n + 2} isn't used: its checksum is wrong`);
         else wrong.push(`line ${n + 2} isn't used: it isn't a mark (${WANTED})`);
     });
-    return { marks, wrong, cut: lines[lines.length - 1] ?? "" };
+    return { marks, wrong, cut: lines[lines.length - 1] ?? "", whose };
 }
 
 /** Whether bytes begin as a file of marks does. */
@@ -242,13 +239,16 @@ class Life {
 /** The marks of a journal. */
 export class Times {
     readonly marks: Mark[];
+    private readonly whose: Identity;
     private readonly lives = new Map<number, Life>();
     private readonly leftOut: string[];
 
-    constructor(readonly name: string, bytes: Uint8Array, records: Records, readonly drift: number) {
-        const { marks, wrong, cut } = readMarks(bytes), bounds = new Map<number, Bound[]>();
+    constructor(
+        readonly name: string, { marks, wrong, cut, whose }: MarksRead, records: Records, readonly drift: number) {
+        const bounds = new Map<number, Bound[]>();
         this.marks = marks;
-        this.leftOut = wrong;
+        this.whose = whose;
+        this.leftOut = [...wrong];
         const isByEvent = marks.some(mark => mark.event !== null);
         const events = isByEvent ? placesOf(records) : new Map<number, number>(),
               later = isByEvent ? latersOf(records) : [];
@@ -305,9 +305,10 @@ export class Times {
 
     /** What each place says. */
     says(): string {
+        const whose = Object.keys(this.whose).length ? `; whose they are: ${identityText(this.whose)}` : "";
         return `UTC is by marks next to the journal (${
                    spelled(this.name)}), which are outside the journal and outside ` +
-            `the proof; the unit's clock is taken to run off by ${this.drift} ppm at most`;
+            `the proof; the unit's clock is taken to run off by ${this.drift} ppm at most${whose}`;
     }
 }
 

@@ -21,6 +21,8 @@ TOP = HERE.parents[1]
 sys.path[:0] = [str(HERE), *(str(TOP / part) for part in ("python", "tests", "tests/events", "tests/plain"))]
 
 import gaknifur.__main__  # noqa: E402
+from gaknifur.journal import braking, reading, tables  # noqa: E402
+from gaknifur.journal.extent import Bound, Extent  # noqa: E402
 from compared import Compared  # noqa: E402
 from images import blocks, slots_of  # noqa: E402
 from table_rows import page_faults, page_of  # noqa: E402
@@ -187,6 +189,51 @@ def braked(rows):
     rows.same(f"a report of 3,000 events takes less than {MOST_SECONDS} s of processor time", took < MOST_SECONDS, True)
 
 
+def extents(count, lives):
+    """Parts of a journal of `count` events: some around each end and between, and each life, also with bounds."""
+    def event(number):
+        return Bound("event", number, str(number))
+    ends = sorted({0, 1, 9, count // 2, count - 7, count - 1})
+    for number, first in enumerate(ends):
+        yield from (Extent(event(first), event(last)) for last in ends[number:] if last - first < count // 2 + 2)
+    yield from (Extent(event(ends[3])), Extent(None, event(ends[2])))
+    for life in lives:
+        yield from (Extent(life=life), Extent(event(ends[2]), event(ends[-2]), life))
+
+
+def commands(records, train, table):
+    """The brake commands that begin in a part and end there, with all that is measured."""
+    events = set(table["event"])
+    return [row for row in braking.rows(records, train) if row["first_event"] in events and row["last_event"] + 1 in events]
+
+
+def parts(rows):
+    """A part is read without the rest, and has the same values as in a table of all; an image that isn't whole is read whole."""
+    count = 0
+    for name in ("power_cut", "trip", "braked"):
+        whole = reading.read(name, replay=True, why=True, strays=True)
+        table = tables.frame(whole)
+        for extent in extents(len(table), sorted(set(table["life"]))):
+            wanted = extent.take(table)
+            journal = reading.read(name, replay=True, why=True, strays=True, part=extent.part)
+            found = extent.take(tables.frame(journal))
+            same = [tables.csv_text(one.drop(columns="stretch")) for one in (found, wanted)]
+            rows.same(f"{name}, {extent.text()}: the table of a part", same[0], same[1])
+            rows.same(f"{name}, {extent.text()}: brake commands", commands(journal.records, journal.train, found), commands(whole.records, None, wanted))
+            lead = len(journal.records) - len(found)
+            rows.same(f"{name}, {extent.text()}: no more is read than since the last reading", len(wanted) == 0 or (journal.is_part and lead <= 8), True)
+            count += journal.is_part
+    rows.same("parts that are read without the rest", count > 35, True)
+    rows.page("trip", "--life", "1", "--to", "9", charts=1, text=["Only this part was read", "life 1, events 0 to 9; at its end"])
+    rows.page("byte", "--from", "9", "--to", "12", charts=1, said="lab: byte: something is lost, damaged or contradicts", text=["a part of it: from 9 to 12"])
+    (rows.room / "marked").write_bytes((rows.room / "trip").read_bytes())
+    marks = rows.room / "marked.times"
+    for mark, is_part in (("1,0,", True), (",,2", False)):
+        marks.write_text(f"life,moment_ms,event,utc,uncertainty_ms,source\n{mark},2026-03-01T10:00:00.000Z,50,GNSS\n")
+        page = rows.page("marked", "--from", "9", "--to", "12", charts=1, said=None)
+        rows.same(f"a mark at {mark}: only the part is read", "Only this part was read" in page, is_part)
+
+
 def long(rows):
     (rows.room / "long").write_bytes(long_image(LONG))
     begun = processor_seconds()
@@ -214,6 +261,7 @@ def main(words):
         examples(rows)
         damaged(rows)
         braked(rows)
+        parts(rows)
         long(rows)
     print(f"lab: {rows.count} comparisons of ./lab, {rows.differ} differ")
     return 1 if rows.differ else 0

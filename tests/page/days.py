@@ -35,6 +35,9 @@ ODD_NUMBERS = ("-1", "1.5", "x", " 1", "1 ", "+1", "007", str(2**40), str(2**40 
 ODD_LINES = ("", "   ", "\x1f", "\u2003", "# a word", " # no word", ",,,,,", "1,0", '"', "1,0,,2026-03-01T10:00:00Z,5,a,b", "1,0,,2026-03-01T10:00:00Z,5,a\rb",
              '"1","0","","2026-03-01T10:00:00Z","5","a"', '1,0,,2026-03-01T10:00:00Z,5,"a\rb"', "1,0,,2026-03-01T10:00:00Z,5,a\r\r", "\ufeff")
 
+WHOSE = ("unit: 17", "unit: 18", "vehicle: 402 001, b", "software:2.3.0", " unit : \u202e17", "unit:", "unit", "unit: 17\x0bvehicle: 3", "unit: 1\rsoftware: 2",
+         "vehicle: a\x85unit: 9", "vehicle: 3\r\r", "Unit: 17", "driver: 1", "\ufeffunit: 17", "unit: \xa0", "software: 1: 2", "unit: 1,2,3,4,5,6")
+
 
 def mark(dice: random.Random, journal: reading.Journal, drift: int) -> str:
     """A line of a clock that is right, wrong now and then, or nothing that a mark is."""
@@ -50,10 +53,12 @@ def mark(dice: random.Random, journal: reading.Journal, drift: int) -> str:
 
 def odd(dice: random.Random) -> str:
     """A line that is perhaps no mark."""
-    kind = dice.randrange(5)
+    kind = dice.randrange(6)
     row = ["1", str(dice.randrange(1000)), "", "2026-03-01T10:00:00.000Z", "50", "GNSS"]
     if kind == 0:
         row[3] = dice.choice(ODD_TIMES)
+    elif kind == 5:
+        return dice.choice(WHOSE)
     elif kind == 1:
         row[dice.choice((0, 1, 2, 4))] = dice.choice(ODD_NUMBERS)
     elif kind == 2:
@@ -116,7 +121,7 @@ def set_drift(browser: Browser, drift: int) -> None:
 
 def random_marks(browser: Browser, _page: Path, folder: Path) -> int:
     """Random files of marks of random images: each time of day, each bound, each fault and each refusal."""
-    dice, count, known, refused, contradicted, unused, wrong = random.Random(70), 0, 0, 0, 0, 0, [0, 0]
+    dice, count, known, refused, contradicted, unused, wrong, named = random.Random(70), 0, 0, 0, 0, 0, [0, 0], 0
     for number in range(IMAGES):
         path = folder / f"image{number}"
         path.write_bytes(image(folder, lives_of(dice), dice.choice((4, 9, 40))))
@@ -136,9 +141,10 @@ def random_marks(browser: Browser, _page: Path, folder: Path) -> int:
                 count += len(wanted["utc"])
                 known += sum(one is not None for one in wanted["utc"])
                 contradicted += any("contradict" in one for one in wanted["faults"])
+                named += "; whose they are: " in wanted["says"]
                 unused += any("contradict" not in one for one in wanted["faults"])
                 wrong = [so_far + any(why in one for one in wanted["faults"]) for so_far, why in zip(wrong, ("isn't a mark", "its checksum is wrong"))]
-    assert known > 1_500 and refused > 5 and contradicted > 15 and unused > 15 and min(wrong) > 15, (count, known, refused, contradicted, unused, wrong)
+    assert known > 1_500 and refused > 5 and contradicted > 15 and unused > 15 and min(wrong) > 15 and named > 8, (count, known, refused, contradicted, unused, wrong, named)
     return count
 
 

@@ -167,4 +167,48 @@ def refused(browser: Browser, _page: Path, folder: Path) -> int:
     return 16
 
 
-CHECKS = {"on_one_axis": (on_one_axis, 37), "refused": (refused, 16)}
+def marks_of(path: Path, whose: str) -> Path:
+    """A file of marks for an image, with lines that say whose they are."""
+    marks = path.with_name(path.name + ".times")
+    marks.write_text(f"{times.FIRST}\n1,0,,2026-03-01T10:00:00.000Z,50,GNSS\n{whose}\n", encoding="utf-8")
+    return marks
+
+
+def asked(browser: Browser, question: str, button: str) -> list[str]:
+    """Answers a question about strangers; the names of the images that are shown then."""
+    browser.until("return document.getElementById('strangers').checkVisibility()")
+    assert browser.text("strangers-said") == question, browser.text("strangers-said")
+    browser.click(button)
+    assert not browser.run("return document.getElementById('strangers').checkVisibility()")
+    names: list[str] = browser.run("return [...document.querySelectorAll('#images [aria-pressed]')].map(one => one.textContent)")
+    return names
+
+
+def strangers_by_marks(browser: Browser, _page: Path, folder: Path) -> int:
+    """Marks that name another vehicle or unit than those of another image, or than their image's identity, or handed over later: each is asked."""
+    one, other = made(folder)
+    own, foreign = marks_of(one, "unit: 17\nsoftware: 2.3.0"), marks_of(other, "unit: 18")
+    browser.ask(one, own)
+    assert "; whose they are: unit 17, software 2.3.0." in browser.text("day-said"), browser.text("day-said")
+    question = "other.bin.times is of unit 18, and A (one.bin.times) of unit 17, software 2.3.0."
+    for button, wanted in (("strangers-out", ["A: one.bin"]), ("strangers-on", ["A: one.bin", "B: other.bin"])):
+        browser.hand(other, "file", foreign)
+        assert asked(browser, question, button) == wanted
+    browser.until("return window.gaknifur.ask.isDone")
+    marks_of(one, "unit: 19")
+    browser.run("document.querySelectorAll('#images [aria-pressed]')[0].click()")
+    for button, unit in (("strangers-out", "17, software 2.3.0"), ("strangers-on", "19")):
+        browser.hand(own)
+        asked(browser, "one.bin.times is of unit 19, and B (other.bin.times) of unit 18.", button)
+        assert f"; whose they are: unit {unit}." in browser.text("day-said"), browser.text("day-said")
+    identity = one.with_name(one.name + ".identity")
+    identity.write_text("unit: 17\n", encoding="utf-8")
+    browser.run(REMOVE, 1)
+    browser.run(REMOVE, 0)
+    browser.hand(one, "file", own, identity)
+    assert asked(browser, "one.bin.times is of unit 19, and one.bin of unit 17.", "strangers-out") == []
+    assert browser.complaints() == []
+    return 12
+
+
+CHECKS = {"on_one_axis": (on_one_axis, 37), "refused": (refused, 16), "strangers_by_marks": (strangers_by_marks, 12)}

@@ -21,6 +21,7 @@ ENTRY = {"restrictions": 32, "gradients": 16, "speeds": 32}  # bytes of a list f
 BOUND = {"restrictions": 136, "gradients": 68, "speeds": 136}  # of ETCS_MEMORY_BYTES for each
 STANDING = 27_000  # bytes that a unit in Stand By has at least
 MANY = {of: 2_000_000 for of in KINDS}
+ROOMS = 49_152, 65_536, 131_072, 262_144  # bytes of a buffer
 ROWS, LINKS = (30, 100, 300), 18  # (so many links a telegram has room for)
 PAGE = TOP / "docs" / "explain" / "integration.md"
 STAND, CYCLE, AGAIN = "odometer 0 0", "cycle", "again"
@@ -118,6 +119,16 @@ def links(program):
     return grown(program, [f"5: {link.format(100)}, N_ITER {LINKS - 1}, {rest}"])
 
 
+def held(program, size, kind):
+    """How many of a kind a buffer of a size holds before one is refused, one packet a group."""
+    packets, rest = divmod(size - size_of(dict.fromkeys(KINDS, 0)), 7_168)
+    many, most = 1 if kind == "restrictions" else EACH[kind], (size - STANDING) // ENTRY[kind]
+    track = Track([(kind, 1, many)] * (most // many + 2))
+    answers = run(program, {"packets": packets, "restrictions": rest // 136, "gradients": 0, "speeds": 0}, cycles(track.lines))
+    taken = next(number for number, one in enumerate(answers[1:]) if one.fault == "NO_MEMORY")
+    return Track(track.groups[:taken]).sum[kind]
+
+
 def main(program):
     compared = Compared()
     taken = {kind: beyond(compared, program, kind) for kind in KINDS}
@@ -126,6 +137,9 @@ def main(program):
         wanted = row(program, compared, kind)
         compared.unless(f": {wanted}\n" in page, f"{PAGE.name} doesn't have: {wanted}")
     compared.same("bytes of links", links(program), 0)
+    for size in ROOMS:
+        wanted = " | ".join(f"{number:,}" for number in (size, *(held(program, size, kind) for kind in ENTRY)))
+        compared.unless(f"\n| {wanted} |\n" in page, f"{PAGE.name} doesn't have: {wanted}")
     return compared.end(f"caps: telegrams before the one that is refused {taken}")
 
 

@@ -117,12 +117,20 @@ def write_database(given: SimpleNamespace, progress: Progress) -> int:
     return status
 
 
+def marks_need_all(given: SimpleNamespace) -> bool:
+    """Whether a mark is at an event, which is looked up in the whole journal."""
+    from ..evidence import times
+    path = times.marks_of(given.image, given.times)
+    return path is not None and any(mark.event is not None for mark in times.read_marks(path)[0])
+
+
 def write_report(given: SimpleNamespace, progress: Progress) -> int:
     """Runs `lab report`."""
     from ..journal.extent import Extent, bound
     extent = Extent(bound(given.first) if given.first else None, bound(given.last) if given.last else None, given.life)
     out = out_of(given, files.REPORT, given.image)
-    journal = read(given.image, replay=True, why=True, progress=progress, strays=True)
+    part = None if marks_need_all(given) else extent.part
+    journal = read(given.image, replay=True, why=True, progress=progress, strays=True, part=part)
     take_times(journal, given)
     from ..journal import report
     write(out, report.page(journal, extent, progress, given.newest_first), given.image)

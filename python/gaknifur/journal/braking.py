@@ -90,9 +90,8 @@ def entered(record: Json, train: Json | None) -> Json | None:
     return record if record.get("action") == "enter_train_data" and record["mode"] == "SB" else train
 
 
-def stretches(records: Iterable[Json]) -> Iterator[tuple[list[int], list[Command]]]:
-    """The moments and the commands of each stretch."""
-    train: Json | None = None
+def stretches(records: Iterable[Json], train: Json | None) -> Iterator[tuple[list[int], list[Command]]]:
+    """The moments and the commands of each stretch; `train`: the train data before."""
     for _, group in groupby((one for one in records if one.get("source", "journal") == "journal"), Stretch()):
         moments, found, now, last, mode = set[int](), list[Command](), None, None, None
         for one in group:
@@ -257,14 +256,14 @@ def row(one: Measured) -> Json:
     return found | promises(found, command.train)
 
 
-def measures(records: Iterable[Json]) -> Iterator[Measured]:
-    """The measures of each brake command."""
-    return (Measured(command, moments) for moments, found in stretches(records) for command in found)
+def measures(records: Iterable[Json], train: Json | None = None) -> Iterator[Measured]:
+    """The measures of each brake command; `train`: the record of the train data before."""
+    return (Measured(command, moments) for moments, found in stretches(records, train) for command in found)
 
 
-def rows(records: Iterable[Json]) -> Iterator[Json]:
-    """A row for each brake command."""
-    return map(row, measures(records))
+def rows(records: Iterable[Json], train: Json | None = None) -> Iterator[Json]:
+    """A row for each brake command; `train` as in `measures`."""
+    return map(row, measures(records, train))
 
 
 # ---- output

@@ -74,6 +74,10 @@ class Reasons:
         at = bisect.bisect_right(self.firsts, event) - 1
         return self.runs[at][2] if at >= 0 and event <= self.runs[at][1] else self.without
 
+    def is_one_run(self, first: int, last: int) -> bool:
+        """Whether the replay agrees in all events from one to another one, which are of one life."""
+        return self.of(first) is None and bisect.bisect_right(self.firsts, first) == bisect.bisect_right(self.firsts, last)
+
 
 @dataclass
 class Known:
@@ -122,10 +126,24 @@ def rows_of(journal: Journal) -> Iterator[Row]:
     return ((one["event"], one["kind"], one["brake"], one.get("source")) for one in journal.records)
 
 
+def of_line(line: Json | None) -> Known:
+    """What is known from a line of `etcs_lab why` up to the next one; nothing without a line."""
+    return Known(None, None, held(line), line.get(LIMIT_CAUSE), trip_of(line)) if line else Known(None)
+
+
+def line_before(journal: Journal, reasons: Reasons) -> Json | None:
+    """The line of `etcs_lab why` before the first record, which holds there; None if it is of another life."""
+    if not journal.why or not journal.records:
+        return None
+    line, first = journal.why[0], journal.records[0]["event"]
+    return line if line["event"] < first and reasons.is_one_run(line["event"], first) else None
+
+
 def known(journal: Journal, records: Iterable[Row]) -> Iterator[Known]:
     """What is known about each record. Those from one line of `etcs_lab why` to the next have the same causes, limit and trip."""
     lines, reasons = {line["event"]: line for line in journal.why}, Reasons(journal)
-    before, same = None, Known(None)
+    before = line_before(journal, reasons)
+    same = of_line(before)
     for event, kind, brake, source in records:
         reason = OTHER_BLOCK if (source or "journal") != "journal" else reasons.of(event)
         line = lines.get(event) if reason is None else None
@@ -137,7 +155,7 @@ def known(journal: Journal, records: Iterable[Row]) -> Iterator[Known]:
             continue
         latest = line or (before if kind != "powerup" else None)
         if line or latest is not before:
-            same = Known(None, None, held(latest), latest.get(LIMIT_CAUSE), trip_of(latest)) if latest else Known(None)
+            same = of_line(latest)
         before = latest
         yield Known(None, line, same.held, same.limit, same.trip) if line else same
 

@@ -6,6 +6,7 @@ from typing import Any
 import pandas as pd
 
 from ..program import WRONG_WORDS, Failed
+from .part import Part
 
 FORM = re.compile(r"(-?[0-9]+(?:\.[0-9]+)?)(m|s)?")
 UNITS = {"m": ("place_cm", 100), "s": ("time_ms", 1000), None: ("event", 1)}
@@ -41,6 +42,14 @@ class Extent:
     def is_all(self) -> bool:
         """Whether it is the whole journal."""
         return self.first is None and self.last is None and self.life is None
+
+    @property
+    def part(self) -> Part | None:
+        """The part that can be read without the rest: events, or a life; None for places and moments, which each life has, and for all."""
+        bounds = [one for one in (self.first, self.last) if one is not None]
+        if self.is_all or any(one.column != "event" for one in bounds):
+            return None
+        return Part(self.first.value if self.first else None, self.last.value if self.last else None, self.life)
 
     def text(self) -> str:
         """The text on a page."""

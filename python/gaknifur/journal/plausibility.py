@@ -285,10 +285,10 @@ def group_finding(word: str, one: Json, other: Json, off: int) -> Json:
 class Judge:
     """Judges the records of a journal, which are added in their order. Movement and speeds are judged only in lives with moments."""
 
-    def __init__(self, limits: Thresholds = Thresholds()) -> None:
+    def __init__(self, limits: Thresholds = Thresholds(), train: Json | None = None) -> None:
         self.limits, self.found, self.lives = limits, Found(), list[Passed]()
         self.movement = Movement(limits)
-        self.maximum: int | None = None
+        self.maximum: int | None = train["maximum_m_per_h"] if train else None
 
     def add(self, record: Json) -> None:
         """Adds a record."""
@@ -318,9 +318,9 @@ class Judge:
         return self.found
 
 
-def judge(records: Iterable[Json], limits: Thresholds = Thresholds()) -> Found:
-    """Judges all records of a journal."""
-    found = Judge(limits)
+def judge(records: Iterable[Json], limits: Thresholds = Thresholds(), train: Json | None = None) -> Found:
+    """Judges records of a journal; `train`: the record of the train data before them."""
+    found = Judge(limits, train)
     for one in records:
         found.add(one)
     return found.end()

@@ -5,14 +5,15 @@ import itertools
 import json
 import marshal
 import zlib
-from collections.abc import Callable, Iterator, Sequence
+from collections.abc import Callable, Iterable, Iterator, Sequence
 from dataclasses import dataclass, field
 from pathlib import Path
-from typing import TYPE_CHECKING, Any, overload
+from typing import TYPE_CHECKING, Any, Protocol, overload
 
 from ..digests import digest
 from ..escaping import shown
 from ..program import DEVICE, NOT_WHOLE, REFUSED, WHOLE, Failed, Run
+from .part import Changes, Part
 
 if TYPE_CHECKING:
     from ..evidence.identity import Identity
@@ -27,6 +28,19 @@ Progress = Callable[[str, int, int], None]
 AT_ONCE, PACK, MOST_UNPACKED, MOST_SMALL = 512, 512, 1 << 15, 1 << 20
 """The number of lines that are read at once, the number of records in a pack, the greatest number of records that aren't packed (a
 multiple of PACK), and the greatest size of an image whose lines are all read at once."""
+
+
+class Choice(Protocol):
+    """Chooses the lines to read."""
+
+    is_over: bool
+    """Whether no further line is chosen."""
+
+    def take(self, line: str) -> list[str]:
+        """The lines to read when a line comes."""
+
+    def end(self) -> list[str]:
+        """The lines to read after the last one."""
 
 
 def silent(what: str, done: int, whole: int) -> None:
@@ -106,6 +120,11 @@ class Journal:
     """Whose the image is, by the file next to it."""
     times: "Times | None" = None
     """The marks of the time of day next to the image, if there are any. They belong neither to the journal nor to the output of `etcs_lab`."""
+    is_part: bool = False
+    """Whether only the records of a part were read, with those that its beginning needs (module `part`). The examination and the replay are of
+    the whole image."""
+    train: Json | None = None
+    """The record of the train data that were entered before a part."""
 
     @property
     def name(self) -> str:
@@ -178,16 +197,29 @@ def parsed_all(lines: Sequence[str], what: str) -> list[Json]:
     return [parsed(line, what) for line in lines]
 
 
-def objects(words: list[str], path: Path, step: Callable[[Json], None]) -> Run:
-    """Calls `step` with the object on each line of a run. For a small image all lines are read at the end of the run."""
+def chosen(lines: Iterable[str], choice: Choice | None) -> Iterator[str]:
+    """The lines that are chosen; all if there is no choice."""
+    if choice is None:
+        yield from lines
+        return
+    for line in lines:
+        yield from choice.take(line)
+        if choice.is_over:
+            break
+    yield from choice.end()
+
+
+def objects(words: list[str], path: Path, step: Callable[[Json], None], choice: Choice | None = None) -> Run:
+    """Calls `step` with the object on each line of a run that is chosen. For a small image all lines are read at the end of the run."""
     run = Run(words, path)
     if is_small(path):
-        for line in parsed_all(run.all_lines(), words[0]):
+        for line in parsed_all(list(chosen(run.all_lines(), choice)), words[0]):
             step(line)
         return run
     lines = run.lines()
     with contextlib.closing(lines), without_collecting():
-        while some := list(itertools.islice(lines, AT_ONCE)):
+        some_lines = chosen(lines, choice)
+        while some := list(itertools.islice(some_lines, AT_ONCE)):
             for line in parsed_all(some, words[0]):
                 step(line)
     return run
@@ -250,8 +282,8 @@ def listing(other_blocks: bool, strays: bool) -> list[str]:
     return ["events", *(["--all"] if other_blocks or strays else [])]
 
 
-def read_events(journal: Journal, other_blocks: bool, strays: bool, progress: Progress) -> None:
-    """Adds the records that `etcs_lab events` prints."""
+def read_events(journal: Journal, other_blocks: bool, strays: bool, progress: Progress, part: Part | None = None) -> None:
+    """Adds the records that `etcs_lab events` prints, or those of a part."""
     extent = journal.examination["journal"] or {}
     last, first = extent.get("last_event"), extent.get("first_event")
     whole = 0 if last is None or first is None else last - first + 1
@@ -274,7 +306,12 @@ def read_events(journal: Journal, other_blocks: bool, strays: bool, progress: Pr
         elif "end" in line:
             ended = True
 
-    run = objects(listing(other_blocks, strays), journal.path, step)
+    run = objects(listing(other_blocks, strays), journal.path, step, part)
+    if part:
+        journal.train = parsed(part.train, "events") if part.train else None
+        journal.is_part = True
+    if part and part.is_over:
+        return
     if run.status == REFUSED and not journal.records:
         journal.refusal = run.last_message()
     elif run.status not in (WHOLE, NOT_WHOLE):
@@ -291,7 +328,10 @@ def read_why(journal: Journal, progress: Progress) -> None:
         if "event" in line:
             journal.why.append(line)
 
-    run = objects(["why", "--json"], journal.path, step)
+    changes = Changes(journal.records[0]["event"], journal.records[-1]["event"]) if journal.is_part else None
+    run = objects(["why", "--json"], journal.path, step, changes)
+    if changes and changes.is_over:
+        return
     if run.status == REFUSED and not journal.why:
         journal.why_refusal = run.last_message()
     elif run.status not in (WHOLE, NOT_WHOLE):
@@ -299,16 +339,21 @@ def read_why(journal: Journal, progress: Progress) -> None:
 
 
 def read(path: str | Path, other_blocks: bool = False, replay: bool = False, why: bool = False,
-         progress: Progress = silent, strays: bool = False, is_own: bool = False) -> Journal:
+         progress: Progress = silent, strays: bool = False, is_own: bool = False, part: Part | None = None) -> Journal:
     """The journal in a file. Fails if the image isn't formatted; reads everything readable of a damaged one. Causes are known only
-    with a replay. If the file `is_own`, nothing else writes to it, so it isn't checked for changes."""
+    with a replay. If the file `is_own`, nothing else writes to it, so it isn't checked for changes. Of a `part` that has a record only that
+    part is read, if the image is whole."""
     path = Path(path)
     if not path.exists():
         raise Failed(f"{path}: no such file", DEVICE)
     progress("examination", 0, 0)
     examination, replayed = check(path, progress) if replay else (examine(path), [])
     journal = Journal(path, examination)
-    read_events(journal, other_blocks, strays, progress)
+    if part and journal.is_whole:
+        read_events(journal, False, False, progress, part)
+    if not journal.records:
+        journal.is_part = False
+        read_events(journal, other_blocks, strays, progress)
     journal.replay = replayed if journal.refusal is None else []
     if why and journal.refusal is None:
         read_why(journal, progress)

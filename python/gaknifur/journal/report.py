@@ -192,11 +192,17 @@ def in_order(rows: pd.DataFrame, is_newest_first: bool) -> pd.DataFrame:
     return rows.sort_values("life", ascending=False, kind="stable") if is_newest_first else rows
 
 
-def interventions(table: pd.DataFrame, is_newest_first: bool) -> tuple[pd.DataFrame, pd.DataFrame]:
-    """The interventions of a part of a journal, by rows of its records, and separately those that every power-up brings."""
+def intervention_rows(table: pd.DataFrame) -> pd.DataFrame:
+    """The interventions of a part of a journal, by rows of its records."""
     found = tables.interventions(table)
     for name in ("first_row", "last_row", "most_over_row"):
         found[name] = [None if pd.isna(at) else int(table.index[int(at)]) for at in found[name]]
+    return found
+
+
+def interventions(table: pd.DataFrame, is_newest_first: bool) -> tuple[pd.DataFrame, pd.DataFrame]:
+    """The interventions of a part of a journal, and separately those that every power-up brings."""
+    found = intervention_rows(table)
     usual = np.array([is_usual(one) for one in found.to_dict("records")], bool)
     return in_order(found[~usual], is_newest_first), in_order(found[usual], is_newest_first)
 
@@ -224,7 +230,7 @@ def pictures_of(table: pd.DataFrame, drawn: list[Life], chosen: pd.DataFrame, ro
 def braking_of(journal: Journal, table: pd.DataFrame) -> Json:
     """Whether the train braked after each command that begins in a part of a journal, with charts."""
     events = set(table["event"])
-    measured = [one for one in braking.measures(journal.records) if one.command.first_event in events]
+    measured = [one for one in braking.measures(journal.records, journal.train) if one.command.first_event in events]
     rows = [braking.row(one) for one in measured]
     drawn = braking_charts.chosen(rows)
     return {"rows": [row for row in rows if braking_charts.is_seen(row)][:MOST_LISTED], "all": len(rows),
@@ -241,13 +247,19 @@ def extent_of(records: pd.DataFrame) -> str:
     return f"events {first} to {last}, of life {lives[0]}" + (f" to {lives[-1]}" if len(lives) > 1 else "")
 
 
+def brief_of(journal: Journal, records: pd.DataFrame, table: pd.DataFrame) -> summary.Brief:
+    """The summary: of the journal, or of the part that was read."""
+    shown = table if journal.is_part else records
+    return summary.brief(journal, shown, intervention_rows(shown))
+
+
 def page(journal: Journal, extent: Extent = Extent(), progress: Progress = silent, is_newest_first: bool = False) -> str:
     """The page of a journal, or of a part of it."""
     records = tables.frame(journal)
-    at_top = summary.brief(journal, records, tables.interventions(records))
     table = extent.take(records)
     if table.empty and not extent.is_all:
         raise Failed(f"{journal.path}: the journal has no record {extent.text()}; it has {extent_of(records)}. Nothing was written.", REFUSED)
+    at_top = brief_of(journal, records, table)
     found, usual = interventions(table, is_newest_first)
     readings = tables.some_of(table, table["kind"] == "odometer", ("event", "speed_kmh"))
     fastest, over = top_of(readings, "speed_kmh"), top_of(table, "over_limit_kmh")

@@ -33,10 +33,10 @@ class Newest:
 
 
 def newest(journal: Journal, table: pd.DataFrame) -> Newest | None:
-    """The newest block of a journal; None if it can't be read."""
+    """The newest block of a journal; None if it can't be read, or isn't in the part that was read."""
     number = (journal.examination["journal"] or {}).get("newest_block")
     slot = next((slot for slot in journal.slots if slot["state"] == "block" and slot.get("block") == number), None)
-    if number is None or slot is None:
+    if number is None or slot is None or (journal.is_part and journal.records[-1]["event"] != slot["last_event"]):
         return None
     unwritten = (other for other in journal.slots if other["state"] == "unwritten")
     following = next((other for other in unwritten if other.get("block") == number + 1), None)

@@ -37,10 +37,10 @@ class Verdict:
 
 
 def of(journal: Journal) -> Verdict:
-    """The verdict of a journal, with the default thresholds. It is computed once."""
+    """The verdict of a journal, with the default thresholds. It is computed once. Of a part, only what is implausible in it counts."""
     if journal.verdict is None:
         records = (one for one in journal.records if one.get("source", "journal") == "journal")
-        journal.verdict = Verdict(faults(journal), plausibility.judge(records).findings)
+        journal.verdict = Verdict(faults(journal), plausibility.judge(records, train=journal.train).findings)
     return journal.verdict
 
 

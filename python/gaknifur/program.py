@@ -338,10 +338,23 @@ def adapted(digits: str) -> str:
     return done.stdout.strip()
 
 
-@functools.lru_cache(maxsize=4096)
+MOST_DECODED = 4096
+decoded: dict[str, list[str]] = {}
+"""The lines of telegrams that were decoded before."""
+
+
+def keep_decoded(digits: str, lines: list[str]) -> None:
+    """Keeps what `etcs decode` prints of a telegram."""
+    if len(decoded) >= MOST_DECODED:
+        decoded.clear()
+    decoded[digits] = lines
+
+
 def decode(digits: str) -> list[str]:
     """What `etcs decode` prints of a telegram."""
-    lines = etcs("decode", "--", digits)[1]
-    if not lines:
-        raise Failed("etcs decode printed nothing", REFUSED)
-    return lines
+    if digits not in decoded:
+        lines = etcs("decode", "--", digits)[1]
+        if not lines:
+            raise Failed("etcs decode printed nothing", REFUSED)
+        keep_decoded(digits, lines)
+    return decoded[digits]

@@ -145,6 +145,20 @@ def by_both_ways(room, lives):
     return tables[0]
 
 
+def only_refused(room):
+    """A campaign in which each scenario is refused plays nothing: it says so, and fails. One that is played makes it good."""
+    folder = room / "refused"
+    folder.mkdir()
+    for number, text in enumerate((b"{}", b"[]")):
+        (folder / f"{number}.json").write_bytes(text)
+    for how, more, status, said in (("only", (), 1, f"lab: {room}/only.db: each scenario was refused, so nothing was played\n"), ("also", ("--random", "1"), 0, "")):
+        done = lab("campaign", folder, room / f"{how}.db", *more)
+        count = 2 + len(more) // 2
+        unless((done.returncode, done.stdout, done.stderr) == (
+            status, f"{count} rows, {count} of them played now; 0 not sound\n2 scenarios were refused, and nothing of them was played; the first: "
+            "0.json: refused 2 Shape\n", said), f"{how} refused: {done.returncode} {done.stdout}{done.stderr}")
+
+
 STAND_IN = """#!/bin/sh
 # Plays as etcs_lab does, but for what a stand-in may do to its lines.
 [ "$1" = play ] || exec "{lab}" "$@"
@@ -263,6 +277,7 @@ def main():
             done = lab("compare", whole, made)
             unless(done.returncode == 0 and done.stdout == "0 rows differ\n", f"{made.name}: {done.stdout}{done.stderr}")
         by_both_ways(room, LIVES_BOTH_WAYS)
+        only_refused(room)
         stand_ins(room, whole, lives)
         worker_killed(room, whole, lives)
         full_disk(room)

@@ -40,7 +40,7 @@ class Rows:
 
     def wrong_properties(self, few):
         file = properties.read(WRONG)
-        made, records = strategies.made_of(file.made_of, file.shared), search.player(None)
+        made, records = strategies.made_of(file.made_of, file.shared), search.Player(None)
         wanted = file.properties[:few]
         for started in search.survey(wanted, made, records, EXAMPLES, SEED):
             self.wrong_property(started, made, records)
@@ -71,23 +71,18 @@ class Rows:
 
     def laws(self, unit):
         file = properties.read(LAWS)
-        made, records = strategies.made_of(file.made_of, file.shared), search.player(None)
-        recorded = []
-
-        def player(scenarios):
-            recorded.append(records(scenarios))
-            return recorded[-1]
-
-        for started in search.survey(file.properties, made, player, LAW_EXAMPLES, SEED):
+        made, records = strategies.made_of(file.made_of, file.shared), search.Player(None)
+        for started in search.survey(file.properties, made, records, LAW_EXAMPLES, SEED):
             judged = started.found.judged
             self.is_so(started.of.note, started.first is None, started.first)
             self.is_so(started.of.note, judged > 0 or started.of.unjudged is not None, "no record was judged")
-        count = sum(map(len, {id(one): one for one in recorded}.values()))
+        recorded = list(records.kept.values())
+        count = sum(map(len, recorded))
         self.is_so("records", count >= LEAST_RECORDS, f"{count} records")
         for one in file.properties:
             self.alter(one, recorded)
         command = shlex.join([str(TOP / "tests/oracle/wrong.py"), "brake_late", unit])
-        late = search.player(search.Other(command, 60.0))
+        late = search.Player(search.Other(command, 60.0))
         late_found = search.survey(file.properties, made, late, 12, SEED)
         self.is_so("a late brake", any(started.first is not None for started in late_found), "no law is broken")
         return count

@@ -75,6 +75,11 @@ def play_campaign(given: SimpleNamespace, progress: "Progress") -> int:
         print(f"{lost} batches were lost with their process, and played again")
     for row in first:
         print(shown(f"  {row['name']}: {row['ended']}{'; ' + row['first_missed'].splitlines()[0] if row['first_missed'] else ''}"))
+    refused, name = campaign_table.refused(given.out)
+    if refused:
+        print(shown(f"{refused} scenarios were refused, and nothing of them was played; the first: {name}"))
+    if refused == rows:
+        raise Failed(f"{given.out}: each scenario was refused, so nothing was played", REFUSED)
     return FOUND if bad else 0
 
 

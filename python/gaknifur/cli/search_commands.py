@@ -129,7 +129,6 @@ def keep(folder: Path, name: str, text: str, image: Callable[[Path], None]) -> P
     case = folder / f"{name}.case.yaml"
     case.write_text(text, encoding="utf-8", newline="\n")
     image(own / "image")
-    (own / "scenario.json").unlink(missing_ok=True)
     (own / "report.html").write_text(report.page(read(own / "image", replay=True, why=True)), encoding="utf-8",
                                       newline="\n")
     return case
@@ -171,7 +170,7 @@ def search(given: SimpleNamespace, progress: Progress) -> int:
         raise Failed("hypothesis is missing; tools/python --search installs it by Debian's packages", DEVICE) from error
     seed = secrets.randbelow(SEEDS) if given.seed is None else given.seed
     made, names = strategies.made_of(file.made_of, file.shared), names_of([one.note for one in wanted])
-    records = searching.player(searching.Other(given.against, given.answer_within) if given.against else None)
+    records = searching.Player(searching.Other(given.against, given.answer_within) if given.against else None)
     print(f"seed {seed}, {given.examples} scenarios", flush=True)
     wrong = 0
     all_started = searching.survey(wanted, made, records, given.examples, seed)

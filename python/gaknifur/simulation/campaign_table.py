@@ -124,6 +124,19 @@ def unsound(path: Path, most: int) -> tuple[int, int, list[Row]]:
         connection.close()
 
 
+def refused(path: Path) -> tuple[int, str]:
+    """The number of scenarios of a table that were refused, so that nothing of them was run, and the first with its refusal."""
+    connection = files.read_database(path, files.CAMPAIGN)
+    try:
+        found = connection.execute("SELECT count(*), min(name || ': ' || ended) FROM result WHERE kind = 'scenario' AND ended LIKE 'refused %'")
+        count, first = found.fetchone()
+        return count, first or ""
+    except sqlite3.DatabaseError as error:
+        raise Failed(f"{path}: is not a campaign table", REFUSED) from error
+    finally:
+        connection.close()
+
+
 def write_csv(path: Path, out: files.Out) -> None:
     """Writes the whole table as CSV, in the order of the names."""
     connection, text = files.read_database(path, files.CAMPAIGN), io.StringIO()

@@ -14,7 +14,7 @@ from typing import Any
 from ..journal.wording import INDICATIONS, MODES
 from ..simulation import drives
 from ..yaml_files import Value, documents, shortened
-from . import scenarios
+from . import decoding, scenarios
 from .mode_table import mode_table, row_name
 
 KINDS = ("powerup", "telegram", "odometer", "clock", "driver")
@@ -338,7 +338,9 @@ def case_of(at: Value, known: dict[Path, scenarios.Shared]) -> Case:
 def read(path: Path) -> list[Case]:
     """The cases of a file."""
     known: dict[Path, scenarios.Shared] = {}
-    found = [case_of(document, known) for document in documents(path)]
+    read_documents = documents(path)
+    decoding.decode_ahead(read_documents)
+    found = [case_of(document, known) for document in read_documents]
     names = Counter(case.name for case in found)
     for case in found:
         if names[case.name] > 1:

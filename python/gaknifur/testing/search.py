@@ -1,12 +1,12 @@
 """Search random scenarios for one that breaks a property, and shrink it. docs/howto/searching.md explains how to use it.
 
-A scenario is run on the programs, and judged by the records that `etcs_lab events` prints, or by another unit's answers to them.
-Hypothesis shrinks a scenario that breaks a property, and then each step that isn't needed is removed. The scenario is kept as a
+Scenarios are run by `etcs_lab play`, and judged by the records of their images, or by another unit's answers to them. Random ones run
+together, since those that are made don't depend on what is found. Hypothesis shrinks a scenario that breaks a property, and then each step that isn't needed is removed. The scenario is kept as a
 test case.
 """
-import functools
+import contextlib
 import json
-from collections.abc import Callable
+from collections.abc import Callable, Iterator, Sequence
 from dataclasses import dataclass, field
 from pathlib import Path
 from typing import Any
@@ -14,21 +14,26 @@ from typing import Any
 import hypothesis
 from hypothesis import HealthCheck, Phase, settings
 
-from .. import etcs_run, program
+from .. import program
 from ..etcs_run import CARRIED_OUT
-from ..journal.reading import Json, objects
+from ..journal import played_image
+from ..journal.reading import Json
+from ..play import AHEAD, ended, lives_of, play_images
 from ..program import REFUSED, Failed
 from ..units import oracle
-from . import case_runner, properties
+from . import case_runner, decoding, properties
 from .properties import Property, Violated
 from .scenario_text import life_lines, telegram_lines, text_of
 from .strategies import Made, lives
 from .yaml_text import flow, quoted
 
 Lives = tuple[str, ...]
-SLOTS = 128
+SLOTS, TOGETHER = 128, 500
+"""The slots of an image, and the number of scenarios that run together."""
 MOST_SHRINKING = 250
 """The greatest number of scenarios that are run to shrink one."""
+MOST_KEPT = 20_000
+"""The greatest number of scenarios whose records are kept."""
 Records = Callable[[Lives], list[Json]]
 
 
@@ -59,48 +64,64 @@ class Found:
 
 # ---- playing
 
+def images_of(many: Sequence[Lives]) -> Iterator[bytes]:
+    """The image of each scenario, whose lives run in turn."""
+    lines = (("[" + ",".join(scenarios) + "]").encode() for scenarios in many)
+    with program.temporary_folder(AHEAD * SLOTS) as folder, contextlib.closing(
+            play_images(((line, SLOTS) for line in lines), Path(folder))) as results:
+        left = iter(many)
+        for result, image in results:
+            scenarios = next(left)
+            how = [ended(life) or life["status"] for life in lives_of(result)]
+            if how != [CARRIED_OUT] * len(scenarios):
+                raise Failed(f"etcs_lab play ended with {how[-1]}: {' '.join(scenarios)}", REFUSED)
+            yield image
+
+
 def image_of(scenarios: Lives, image: Path) -> None:
-    """Runs lives in turn on an image."""
-    program.format_image(image, SLOTS)
-    for text in scenarios:
-        scenario = image.with_name("scenario.json")
-        scenario.write_text(text, encoding="utf-8")
-        run = etcs_run.run_life(scenario, image)
-        if run.ended != CARRIED_OUT:
-            raise Failed(f"etcs run ended with {run.ended}: {text}", REFUSED)
+    """Writes the image of a scenario."""
+    for data in images_of([scenarios]):
+        image.write_bytes(data)
 
 
-def recorded(scenarios: Lives) -> list[Json]:
-    """The records of lives."""
-    with program.temporary_folder(SLOTS) as folder:
-        image = Path(folder) / "image"
-        records: list[Json] = []
-        ended: list[Json] = []
-        image_of(scenarios, image)
-
-        def take(line: Json) -> None:
-            (records if "event" in line else ended).append(line)
-
-        run = objects(["events"], image, take)
-        if run.status or not ended or "end" not in ended[-1]:
-            raise run.failed(image)
-    return properties.derived(case_runner.with_speeds(records))
+def recorded(many: Sequence[Lives]) -> Iterator[list[Json]]:
+    """The records of each scenario."""
+    for image in images_of(many):
+        records = played_image.records(image)
+        for record in records:
+            if "telegram" in record:
+                record["decoded"] = {"packets": [{"packet": number} for number in decoding.packets_of(record["telegram"].upper())]}
+        yield properties.derived(case_runner.with_speeds(records))
 
 
-def answered(scenarios: Lives, other: Other) -> list[Json]:
-    """The records of lives with another unit's answers. Fails with the lives if the unit breaks the protocol."""
-    comparison = oracle.ask(other.command, "search", recorded(scenarios), other.within_s)
+def answered(scenarios: Lives, records: list[Json], other: Other) -> list[Json]:
+    """The records of a scenario with another unit's answers. Fails with its lives if the unit breaks the protocol."""
+    comparison = oracle.ask(other.command, "search", records, other.within_s)
     if comparison.broken:
         raise Failed(f"the unit broke the protocol: {comparison.broken}; scenarios: {' '.join(scenarios)}", REFUSED)
     return properties.derived(oracle.answered(comparison))
 
 
-def player(other: Other | None) -> Records:
-    """A function that runs lives, the same ones only once."""
-    @functools.lru_cache(maxsize=20_000)
-    def played(scenarios: Lives) -> list[Json]:
-        return answered(scenarios, other) if other else recorded(scenarios)
-    return played
+class Player:
+    """Runs scenarios, the same one only once."""
+
+    def __init__(self, other: Other | None) -> None:
+        self.other = other
+        self.kept: dict[Lives, list[Json]] = {}
+
+    def __call__(self, scenarios: Lives) -> list[Json]:
+        """The records of a scenario, with the other unit's answers if there is one."""
+        if scenarios not in self.kept:
+            self.play([scenarios])
+        return self.kept[scenarios]
+
+    def play(self, many: Sequence[Lives]) -> None:
+        """Runs scenarios in one process. Those of an earlier call are forgotten once there are many."""
+        if len(self.kept) + len(many) > MOST_KEPT:
+            self.kept.clear()
+        new = [scenarios for scenarios in dict.fromkeys(many) if scenarios not in self.kept]
+        for scenarios, records in zip(new, recorded(new)):
+            self.kept[scenarios] = answered(scenarios, records, self.other) if self.other else records
 
 
 # ---- searching
@@ -185,16 +206,26 @@ def over_lives(made: Made, examples: int, seed: int, phases: tuple[Phase, ...], 
              report_multiple_bugs=False)(hypothesis.seed(seed)(hypothesis.given(lives(made))(each)))()
 
 
-def survey(wanted: list[Property], made: Made, records: Records, examples: int, seed: int) -> list[Search]:
+def survey(wanted: list[Property], made: Made, records: Player, examples: int, seed: int) -> list[Search]:
     """Searches random scenarios for all properties at once."""
     searches = [Search(one, records) for one in wanted]
+    met: list[Lives] = []
+
+    def judge() -> None:
+        records.play(met)
+        for scenarios in met:
+            for search in searches:
+                if search.first is None:
+                    search.is_broken(scenarios)
+        met.clear()
 
     def each(scenarios: Lives) -> None:
-        for search in searches:
-            if search.first is None:
-                search.is_broken(scenarios)
+        met.append(scenarios)
+        if len(met) == TOGETHER:
+            judge()
 
     over_lives(made, examples, seed, (Phase.generate,), each)
+    judge()
     return searches
 
 

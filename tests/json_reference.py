@@ -258,6 +258,7 @@ def played(reference, program, room):
     read(reference, program, "play", "--outputs", "all", "--images", room, lines)
     one.write_text(json.dumps(stops))
     read(reference, program, "play", one)
+    read(reference, program, "play", one, one)
     read(reference, program, "play", "/dev/zero")
 
 

@@ -18,7 +18,7 @@ from lab_words import all_words, lab_ran, laid
 SAYS = re.compile(r"etcs_lab: [^\n]+: out of memory\n")
 STOPPED = re.compile(r'\{"end":"stopped","step":(null|[0-9]+),"number":(4|12),"name":"NoMemory"\}\n$')
 ANSWERS = ("refused memory\n", '{"refused":{"name":"memory"}}\n')
-REFUSED = re.compile(r'\{"id":("good"|"faulty"|"lives"|null),"line":[123],"status":"no_memory","name":"NoMemory"\}')
+REFUSED = re.compile(r'\{"id":("good"|"faulty"|"lives"|null),("file":"[^"]+",)?"line":[123],"status":"no_memory","name":"NoMemory"\}')
 LIFE = {"status": "no_memory", "name": "NoMemory"}
 MOST, LEAST = 100_000, 300
 
@@ -33,6 +33,14 @@ def ends_early(line, undisturbed):
     return found == other and last == LIFE and len(first) < len(lives) and first == lives[:len(first)]
 
 
+def plays_on(lines, said, wanted):
+    """Whether `play` says in a line that memory was refused, and prints the others; or says it of a file, and leaves out what is left of that file."""
+    if not said:
+        return len(lines) == len(wanted) and all(one == other or REFUSED.fullmatch(one) or ends_early(one, other) for one, other in zip(lines, wanted))
+    left = len(wanted) - len(lines)
+    return bool(SAYS.fullmatch(said)) and any(lines == wanted[:at] + wanted[at + left:] for at in range(len(lines) + 1))
+
+
 def says_so(words, found, undisturbed):
     """Whether a run says that memory was refused, after no other line than the undisturbed run's."""
     status, printed, said = found
@@ -40,10 +48,8 @@ def says_so(words, found, undisturbed):
         return True
     if words[0] == "run":
         printed = STOPPED.sub("", printed)
-    if words[0] == "play" and not said:
-        lines = printed.splitlines()
-        return status == 1 and len(lines) == 3 and all(one == other or REFUSED.fullmatch(one) or ends_early(one, other)
-                                                       for one, other in zip(lines, undisturbed[1].splitlines()))
+    if words[0] == "play":
+        return status == 1 and plays_on(printed.splitlines(), said, undisturbed[1].splitlines())
     is_in_pieces = words[0] in ("examine", "check") and "--json" in words
     return status == 1 and bool(SAYS.fullmatch(said)) and undisturbed[1].startswith(printed) and (is_in_pieces or printed[-1:] in ("", "\n"))
 

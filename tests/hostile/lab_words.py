@@ -47,7 +47,7 @@ def all_words(files):
     rows += [["telegram", files[name]] for name in ("telegram", "twice", "no_telegram")]
     for name in ("good", "advised", "faulty", "names"):
         rows += [["lint", files[name]], ["lint", "--json", files[name]], ["run", files[name]]]
-    rows += [["play", files["lines"]], ["play", "--slots=2", "--outputs=all", files["lines"]]]
+    rows += [["play", files["lines"]], ["play", "--slots=2", "--outputs=all", files["lines"], files["lines"]]]
     return [list(map(str, row)) for row in rows]
 
 

@@ -97,7 +97,7 @@ def compare_words(program, room, compared):
         ["why", str(good), "-1"], ["why", str(good), "8", "9"], ["check"], ["check", str(good), "x"], ["check", "--all", str(good)], ["telegram"], ["telegram", "--schema", str(good)], ["decode"], ["lint", str(good), "x"],
         ["--slots", "6"], ["--slots", "6", "--help"], ["--slots", "6", "examine", str(good)],
         ["examine", "--slots", "6"], ["examine", str(good), "--slots"], ["examine", "--slots", "6", "--slots", "6", str(good)], ["lint", "--slots", "6", str(good)],
-        ["decode", "--slots", "6", "90"], ["run", str(good), "--slots", "6"], ["play", str(good), "x"], ["play", "--slots", "1"], ["play", "--outputs"],
+        ["decode", "--slots", "6", "90"], ["run", str(good), "--slots", "6"], ["play", "--slots", "1"], ["play", "--outputs"],
         ["play", "--outputs", "some"], ["play", "--json"], ["examine", "--", "--slots", "6", str(good)],
         *(["examine", "--slots", slots, str(good)] for slots in ("", "1", "1048577", "-6", "6.0", "x", "4294967302")),
     )

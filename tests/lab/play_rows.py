@@ -313,6 +313,34 @@ class Plays(Compared):
         (one,), status, _ = self.play(None, path)
         self.same("a file with a fault", (one["pointer"], one["name"], status), ("/steps/0/clock", "OutOfRange", 1))
 
+    def several(self):
+        """Several files: each line has its file, images are numbered on, and a file that can't be read or has no scenario doesn't stop the others."""
+        images, room = self.folder / "of several", self.folder / "several"
+        for folder in (images, room):
+            folder.mkdir()
+        lines, one, empty, odd, gone, end = (room / name for name in ("lines", "one.json", "empty", 'a "b" \\ c', "gone", "end"))
+        good = '{"id":"a","scenario":%s}\n' % CLOCK
+        lines.write_text(good + "{\n")
+        one.write_text('[%s,%s]' % (CLOCK, CLOCK))
+        empty.write_text("\n")
+        odd.write_text("\n" + good)
+        end.write_text(good + f"{' ' * LONGEST} ")
+        found, status, said = self.play(good, "--images", images, lines, gone, one, "-", empty, odd, room, end, one)
+        self.same("several files", [(each["file"], each["line"], [life["status"] for life in each.get("lives", [each])],
+                                     [life.get("image") for life in each.get("lives", [each])]) for each in found], [
+            (str(lines), 1, ["done"], [1]), (str(lines), 2, ["refused"], [None]), (str(one), None, ["done", "done"], [3, 4]), ("-", 1, ["done"], [5]),
+            (str(odd), 2, ["done"], [6]), (str(end), 1, ["done"], [7]), (str(end), 2, ["unread"], [None]), (str(one), None, ["done", "done"], [9, 10])])
+        self.same("what isn't played of several files", (said, status), (
+            f"etcs_lab: {gone}: can't be read\netcs_lab: {empty}: has no scenario\netcs_lab: {room}: can't be read from line 1 on\n"
+            f"etcs_lab: {end}: line 2 has more than {LONGEST} bytes; it and what follows it isn't read\n", 3))
+        self.same("images of several files", sorted(int(each.stem) for each in images.iterdir()), [1, 3, 4, 5, 6, 7, 9, 10])
+        for files, wanted in (((one, odd), 0), ((one, empty), 1), ((empty, one), 1), ((gone, lines), 3), ((lines, gone), 3), ((empty, empty), 1)):
+            self.same(f"the status of {files}", self.play(None, *files)[1], wanted)
+        self.same("standard input twice", [each["file"] for each in self.play(good, "-", "-")[0]], ["-"])
+        found, _, _ = self.play(None, odd, odd)
+        self.same("each as by itself", found, 2 * [{"file": str(odd)} | self.play(None, odd)[0][0]])
+        self.unless("file" not in self.play(None, odd)[0][0], "one file is named")
+
     def unread(self):
         """Nothing to play, a file that can't be read, a line without an end, an output that takes nothing, images that can't be written."""
         path = self.folder / "lines"
@@ -407,6 +435,7 @@ class Plays(Compared):
         self.as_run(cases[::4])
         self.from_python(cases[::7])
         self.faults()
+        self.several()
         self.unread()
         self.decoded()
         for word in ("done", "stopped", "trips", "service_brakes", "emergency_brakes"):

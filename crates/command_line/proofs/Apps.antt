@@ -7,7 +7,6 @@ use Rattle.clap.specs.declared.builder.command.Command.{Command}
 use Rattle.clap.specs.declared.builder.command.Command.TheOpen.{Command-F}
 use Rattle.clap.specs.declared.builder.command.Command.TheViews.{out-Command}
 use Rattle.command_line.specs.Arguments.{IsApp, IsArg}
-use Rattle.std.specs.Prelude.{false}
 
 pub with_arg : (app : App) (rule : Rule) (old : Command) (arg : Arg) (new : Command) → IsApp app old → IsArg rule arg → AddsArg old arg new → IsApp (with_rule app rule) new
 with_arg app rule old arg new before arg_is added = record {

@@ -1,5 +1,5 @@
 -- The command line of `etcs`: the command as `clap` reads it, and what its arguments ask for (this project's profile).
-use Rattle.std.specs.Prelude.{ℕ, Option, Some, None, option_map, option_and_then, List, if◌then◌else◌, codes, true}
+use Rattle.std.specs.Prelude.{ℕ, Option, None, option_map, option_and_then, List, if◌then◌else◌, codes, true}
 use Rattle.std.specs.Str.{bytes_eq}
 use Rattle.clap.specs.Words.{App, Row, Text, fault_of, first_of, new_app, subcommand_of, with_rule, with_subcommand}
 use Rattle.command_line.specs.Arguments.{has_no_fault, most_u32, number_of, required}

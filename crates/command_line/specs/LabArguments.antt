@@ -1,10 +1,10 @@
 -- The command line of `etcs_lab`: the command as `clap` reads it, and what its arguments ask for (this project's profile).
-use Rattle.std.specs.Prelude.{ℕ, Bool, true, false, Option, Some, None, option_map, option_and_then, List, if◌then◌else◌, codes, pos}
+use Rattle.std.specs.Prelude.{ℕ, Bool, true, false, Option, Some, None, option_map, option_and_then, List, if◌then◌else◌, codes, map, pos}
 use Rattle.std.specs.Str.{bytes_eq}
 use Rattle.clap.specs.Words.{App, Row, Rule, Text, fault_of, first_of, new_app, new_rule, subcommand_of, with_rule, with_subcommand}
-use Rattle.clap.specs.declared.builder.action.ArgAction.TheVariants.{SetTrue}
+use Rattle.clap.specs.declared.builder.action.ArgAction.TheVariants.{Append, SetTrue}
 use Rattle.clap.specs.declared.builder.value_parser.ValueParser.TheVariants as vp
-use Rattle.command_line.specs.Arguments.{has_no_fault, is_set, most_u32, most_u64, number_of, required}
+use Rattle.command_line.specs.Arguments.{all_values, has_no_fault, is_set, most_u32, most_u64, number_of, required}
 use Rattle.command_line.specs.declared.lab.LabCommand.{LabCommand}
 use Rattle.command_line.specs.declared.lab.LabCommand.TheVariants as command
 use Rattle.command_line.specs.declared.lab.LabImage.{LabImage}
@@ -23,6 +23,10 @@ installed = record (new_rule (codes "installed")) { long = Some (codes "installe
 
 abbrev pub file : Rule
 file = new_rule (codes "FILE")
+
+-- files, any number of them
+abbrev pub files : Rule
+files = record (new_rule (codes "FILE")) { action = Some Append }
 
 -- which outputs are printed
 abbrev pub outputs : Rule
@@ -50,7 +54,7 @@ abbrev pub run_app : App
 run_app = with_rule (new_app (codes "run")) (required (codes "SCENARIO"))
 
 abbrev pub play_app : App
-play_app = with_rule (with_rule (with_rule (with_rule (new_app (codes "play")) slots) outputs) folder) file
+play_app = with_rule (with_rule (with_rule (with_rule (new_app (codes "play")) slots) outputs) folder) files
 
 -- the program with no command yet: help where no argument is given
 abbrev pub bare_app : App
@@ -90,7 +94,7 @@ pub data LabValues : Type 0 where
   schema : LabValues
   lint : Text → Bool → LabValues
   run : Text → LabValues
-  play : Option Text → Option ℕ → Option Text → Option Text → LabValues
+  play : List Text → Option ℕ → Option Text → Option Text → LabValues
 
 abbrev pub image_values_of : LabImage → ImageValues
 image_values_of image = (image.path.now, image.slots)
@@ -108,7 +112,7 @@ values_of (command.Installed hex) = adapted hex.now
 values_of command.Schema = schema
 values_of (command.Lint scenario json) = lint scenario.now json
 values_of (command.Run scenario) = run scenario.now
-values_of (command.Play file slots outputs folder) = play (option_map (λ s. s.now) file) slots (option_map (λ s. s.now) outputs) (option_map (λ s. s.now) folder)
+values_of (command.Play files slots outputs folder) = play (map (λ s. s.now) files.items) slots (option_map (λ s. s.now) outputs) (option_map (λ s. s.now) folder)
 
 -- what the matches of each command ask for
 
@@ -139,17 +143,19 @@ telegram_values rows = telegram_of (first_of (codes "FILE") rows) (first_of (cod
 abbrev pub value_values : (Text → Bool → LabValues) → Text → List Row → Option LabValues
 value_values make id rows = option_map (λ value. make value (is_set (codes "json") rows)) (first_of id rows)
 
-abbrev pub play_values : List Row → Option LabValues
-play_values rows = option_map (λ slots. play (first_of (codes "FILE") rows) slots (first_of (codes "outputs") rows) (first_of (codes "images") rows))
+abbrev pub play_over : List Text → List Row → Option LabValues
+play_over files rows = option_map (λ slots. play files slots (first_of (codes "outputs") rows) (first_of (codes "images") rows))
     (optional_number most_u32 (first_of (codes "slots") rows))
 
-abbrev pub other_values : Text → List Row → Option LabValues
-other_values name rows = if bytes_eq name (codes "decode") then value_values decode (codes "HEX") rows
+abbrev pub play_values : List Row → Option LabValues
+play_values rows = play_over (all_values (codes "FILE") rows) rows
+
+abbrev pub single_values : Text → List Row → Option LabValues
+single_values name rows = if bytes_eq name (codes "decode") then value_values decode (codes "HEX") rows
     else (if bytes_eq name (codes "packets") then value_values packets (codes "HEX") rows
     else (if bytes_eq name (codes "telegram") then telegram_values rows
     else (if bytes_eq name (codes "lint") then value_values lint (codes "SCENARIO") rows
-    else (if bytes_eq name (codes "run") then option_map run (first_of (codes "SCENARIO") rows)
-    else (if bytes_eq name (codes "play") then play_values rows else None)))))
+    else (if bytes_eq name (codes "run") then option_map run (first_of (codes "SCENARIO") rows) else None))))
 
 -- a command that reads an image, with its flag
 abbrev pub flagged_values : (ImageValues → Bool → LabValues) → Text → List Row → Option LabValues
@@ -160,10 +166,10 @@ named_values name rows = if bytes_eq name (codes "examine") then flagged_values 
     else (if bytes_eq name (codes "events") then flagged_values events (codes "all") rows
     else (if bytes_eq name (codes "replay") then flagged_values replay (codes "json") rows
     else (if bytes_eq name (codes "check") then flagged_values check (codes "json") rows
-    else (if bytes_eq name (codes "why") then why_values rows else other_values name rows))))
+    else (if bytes_eq name (codes "why") then why_values rows else single_values name rows))))
 
 abbrev pub matched_values : Option (Text × List Row) → Option LabValues
-matched_values = option_and_then (λ found. named_values found.0 found.1)
+matched_values = option_and_then (λ found. if bytes_eq found.0 (codes "play") then play_values found.1 else named_values found.0 found.1)
 
 -- what the arguments ask for: something where the parser finds no fault in them, and `telegram` has exactly one input
 unfoldable pub lab_values : List Text → Option LabValues

@@ -2,14 +2,14 @@
 ghost use Rattle.std.specs.Prelude.{◌≡◌, ◌≢◌, IfErr, IfOk, None, Some, codes, map, option_map};
 ghost use Rattle.std.specs.String.{string_bytes};
 ghost use Rattle.clap.specs.Words.{FailsBy, fault_of, first_of, found_of, kind_of, rows_of, subcommand_of, subcommand_rows_of};
-ghost use Rattle.command_line.specs.LabArguments.{flagged_values, image_values, image_values_of, lab_values, matched_values, named_values, other_values, play_values, telegram_values, value_values, values_of, why_values};
+ghost use Rattle.command_line.specs.LabArguments.{flagged_values, image_values, image_values_of, lab_values, matched_values, named_values, play_over, play_values, single_values, telegram_values, value_values, values_of, why_values};
 ghost use Rattle.command_line.specs.LabArguments as spec;
 
 use crate::lab_app::lab_app;
-use crate::matched::{is_set, u32_of, u64_of, value_of};
+use crate::matched::{is_set, texts_of, u32_of, u64_of, value_of};
 use clap::error::ErrorKind;
 use clap::{ArgMatches, Error};
-use std::alloc::Global;
+use std::alloc::{AllocError, Global};
 use thiserror::Error as ThisError;
 
 /// An image, and how it is read.
@@ -22,7 +22,7 @@ pub struct LabImage<'a> {
 }
 
 /// What the arguments of `etcs_lab` ask for.
-#[derive(Clone, Copy)]
+#[derive(Drop)]
 pub enum LabCommand<'a> {
     /// Examine an image.
     Examine {
@@ -82,7 +82,7 @@ pub enum LabCommand<'a> {
     /// Run many scenarios.
     Play {
         /// Where they are; without one on standard input.
-        file: Option<&'a str>,
+        files: Vec<&'a str>,
         /// The slots of each journal.
         slots: Option<u32>,
         /// Which outputs are printed.
@@ -221,27 +221,37 @@ fn run_command<'a>(matches: &ArgMatches<'a>) -> Option<LabCommand<'a>>
     Some(LabCommand::Run { scenario })
 }
 
-fn play_command<'a>(matches: &ArgMatches<'a>) -> Option<LabCommand<'a>>
-    ensures { option_map values_of result ≡ play_values (rows_of (found_of matches.now)) }
+// With these files.
+fn play_over<'a>(matches: &ArgMatches<'a>, files: Vec<&'a str>) -> Option<LabCommand<'a>>
+    ensures { option_map values_of result ≡ play_over (map (λ s. s.now) files.entry.items) (rows_of (found_of matches.now)) }
 {
     let slots = match value_of(matches, "slots") {
         Some(text) => Some(u32_of(text)?),
         None => None,
     };
-    let file = value_of(matches, "FILE");
     let outputs = value_of(matches, "outputs");
     let folder = value_of(matches, "images");
     Some(LabCommand::Play {
-        file,
+        files,
         slots,
         outputs,
         folder,
     })
 }
 
-// The command of a name over something other than an image.
-fn other_command<'a>(name: &str, matches: &ArgMatches<'a>) -> Option<LabCommand<'a>>
-    ensures { option_map values_of result ≡ other_values name.now (rows_of (found_of matches.now)) }
+fn play_command<'a>(
+    alloc: Global,
+    matches: &ArgMatches<'a>,
+) -> Result<Option<LabCommand<'a>>, AllocError>
+    ensures { IfOk result (λ command. option_map values_of command ≡ play_values (rows_of (found_of matches.now))) }
+{
+    let files = texts_of(alloc, matches, "FILE")?;
+    Ok(play_over(matches, files))
+}
+
+// The command of a name over a telegram or one scenario.
+fn single_command<'a>(name: &str, matches: &ArgMatches<'a>) -> Option<LabCommand<'a>>
+    ensures { option_map values_of result ≡ single_values name.now (rows_of (found_of matches.now)) }
 {
     if name == "decode" {
         decode_command(matches)
@@ -253,13 +263,12 @@ fn other_command<'a>(name: &str, matches: &ArgMatches<'a>) -> Option<LabCommand<
         lint_command(matches)
     } else if name == "run" {
         run_command(matches)
-    } else if name == "play" {
-        play_command(matches)
     } else {
         None
     }
 }
 
+// The command of a name over an image, or else over something other than scenarios.
 fn named_command<'a>(name: &str, matches: &ArgMatches<'a>) -> Option<LabCommand<'a>>
     ensures { option_map values_of result ≡ named_values name.now (rows_of (found_of matches.now)) }
 {
@@ -274,16 +283,20 @@ fn named_command<'a>(name: &str, matches: &ArgMatches<'a>) -> Option<LabCommand<
     } else if name == "why" {
         why_command(matches)
     } else {
-        other_command(name, matches)
+        single_command(name, matches)
     }
 }
 
-fn matched_command<'a>(matches: &ArgMatches<'a>) -> Option<LabCommand<'a>>
-    ensures { option_map values_of result ≡ matched_values (subcommand_rows_of matches.now) }
+fn matched_command<'a>(
+    alloc: Global,
+    matches: &ArgMatches<'a>,
+) -> Result<Option<LabCommand<'a>>, AllocError>
+    ensures { IfOk result (λ command. option_map values_of command ≡ matched_values (subcommand_rows_of matches.now)) }
 {
     match matches.subcommand() {
-        Some((name, inner)) => named_command(name, inner),
-        None => None,
+        Some((name, inner)) if name == "play" => play_command(alloc, inner),
+        Some((name, inner)) => Ok(named_command(name, inner)),
+        None => Ok(None),
     }
 }
 
@@ -321,10 +334,11 @@ pub fn parse_lab<'a>(alloc: Global, args: &'a [String]) -> Result<LabCommand<'a>
     ensures err { IfErr result (λ error. error ≢ LabArgsError.OutOfMemory → lab_values (map string_bytes args.now) ≡ None) }
 {
     match lab_matches(alloc, args) {
-        Ok(matches) => match matched_command(&matches) {
-            Some(command) => Ok(command),
+        Ok(matches) => match matched_command(alloc, &matches) {
+            Ok(Some(command)) => Ok(command),
             // Every other value was checked by the parser.
-            None => Err(not_one_telegram(alloc)),
+            Ok(None) => Err(not_one_telegram(alloc)),
+            Err(_) => Err(LabArgsError::OutOfMemory),
         },
         Err(error) => Err(answer_of(alloc, &error)),
     }

@@ -141,10 +141,10 @@ fn folder_arg<'a>(alloc: Global) -> Arg<'a>
 }
 
 fn scenarios_arg<'a>(alloc: Global) -> Arg<'a>
-    ensures { IsArg spec.file result }
+    ensures { IsArg spec.files result }
 {
-    Arg::new(alloc, "FILE").help(
-        "Scenarios, one on each line, or a single one in a file NAME.json (default: standard input)",
+    Arg::new(alloc, "FILE").action(ArgAction::Append).help(
+        "Scenarios, one on each line, or a single one in a file NAME.json; - is standard input (default: standard input)",
     )
 }
 

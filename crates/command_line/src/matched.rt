@@ -1,15 +1,30 @@
 //! What `clap` matched: values, flags and numbers.
-ghost use Rattle.std.specs.Prelude.{◌≡◌, option_map};
+ghost use Rattle.std.specs.Prelude.{◌≡◌, IfOk, map, option_map};
 ghost use Rattle.clap.specs.Words.{first_of, found_of, rows_of};
-ghost use Rattle.command_line.specs.Arguments.{is_set, most_u32, most_u64, number_of};
+ghost use Rattle.command_line.specs.Arguments.{all_values, is_set, most_u32, most_u64, number_of};
 
 use clap::ArgMatches;
+use std::alloc::{AllocError, Global};
 
 /// The value of an argument.
 pub(crate) fn value_of<'a>(matches: &ArgMatches<'a>, id: &str) -> Option<&'a str>
     ensures { option_map (λ s. s.now) result ≡ first_of id.now (rows_of (found_of matches.now)) }
 {
     matches.get_str(id)
+}
+
+/// The values of an argument that may be given several times, in their order.
+pub(crate) fn texts_of<'a>(
+    alloc: Global,
+    matches: &ArgMatches<'a>,
+    id: &str,
+) -> Result<Vec<&'a str>, AllocError>
+    ensures { IfOk result (λ texts. map (λ s. s.now) texts.items ≡ all_values id.now (rows_of (found_of matches.now))) }
+{
+    match matches.get_raw(id) {
+        Some(texts) => Vec::from_slice(alloc, texts),
+        None => Ok(Vec::new(alloc)),
+    }
 }
 
 /// Whether a flag is set.

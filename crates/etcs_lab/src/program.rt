@@ -50,13 +50,13 @@ fn execute<R: Files<File = File> + Input + AllocGlobal + Eprint, W: Write>(
         LabCommand::Lint { scenario, is_json } => linted(rt, scenario, form_of(is_json), out),
         LabCommand::Run { scenario } => played(rt, scenario, out),
         LabCommand::Play {
-            file,
+            files,
             slots,
             outputs,
             folder,
         } => {
             let args = PlayArgs {
-                file,
+                files: files.as_slice(),
                 slots,
                 outputs,
                 folder,

@@ -3,7 +3,7 @@
 use crate::line_bytes::{copy_of, is_blank, without_scenario};
 use crate::line_input::{Line, MOST_LINE, read_line};
 use crate::lives_list::is_list;
-use crate::player::{Player, Source};
+use crate::player::{Player, Source, Totals};
 use crate::request::{Request, id_of, last_end, members_of, request_of, scenario_in};
 use crate::result_line::{Named, Outputs, write_unplayed};
 use command_line::lab_status::{
@@ -20,8 +20,8 @@ use std::{fs, io};
 /// What the command is given.
 #[derive(Clone, Copy)]
 pub struct PlayArgs<'a> {
-    /// Where the scenarios are; without one on standard input.
-    pub file: Option<&'a str>,
+    /// Where the scenarios are, `-` for standard input; without one on standard input.
+    pub files: &'a [&'a str],
     /// The slots of each journal.
     pub slots: Option<u32>,
     /// Which outputs are printed.
@@ -39,6 +39,8 @@ For more information, try '--help'.
 ";
 
 const SLOTS: u32 = 16;
+
+const INPUT: &str = "-";
 
 // A block that is taken and given back before the first scenario. The C library hands the free end of its heap back to
 // the system where it is greater than twice the greatest such block: without this one it does so after each scenario,
@@ -58,6 +60,7 @@ impl<'a> Player<'a> {
     ) -> Result<bool, Status> {
         let named = Named {
             id: id_of(members),
+            file: self.name,
             line: Some(number),
         };
         let request = match request_of(members) {
@@ -96,6 +99,7 @@ impl<'a> Player<'a> {
     ) -> Result<bool, Status> {
         let named = Named {
             id: None,
+            file: self.name,
             line: Some(number),
         };
         let without = if from < to {
@@ -154,10 +158,11 @@ impl<'a> Player<'a> {
         number: u64,
         out: &mut W,
     ) -> Result<(), Status> {
-        self.count = self.count.saturating_add(1);
-        self.all_done = false;
+        self.totals.count = self.totals.count.saturating_add(1);
+        self.totals.all_done = false;
         let named = Named {
             id: None,
+            file: self.name,
             line: Some(number),
         };
         let name = self.path.escape_debug();
@@ -171,7 +176,7 @@ impl<'a> Player<'a> {
         )
     }
 
-    // Plays the scenario of each line.
+    // Plays the scenario of each line. The error is that of a write.
     fn play_lines<R: Files<File = File> + AllocGlobal + Eprint, B: BufRead, W: Write>(
         &mut self,
         rt: &R,
@@ -185,21 +190,25 @@ impl<'a> Player<'a> {
                 Ok(Line::TooLong) => return self.print_too_long(rt, number, out),
                 Ok(Line::Whole) if is_blank(line.as_slice()) => {}
                 Ok(Line::Whole) => self.play_line(rt, number, line.as_slice(), out)?,
-                Err(error) => return Err(unread_line(rt, self.path, number, &error)),
+                Err(error) => {
+                    self.leave_unread(unread_line(rt, self.path, number, &error));
+                    break;
+                }
             }
         }
         Ok(())
     }
 
-    // Plays the scenario that a file holds.
+    // Plays the scenario of a file that has these bytes.
     fn play_file<R: Files<File = File> + AllocGlobal + Eprint, W: Write>(
         &mut self,
         rt: &R,
+        bytes: Vec<u8>,
         out: &mut W,
     ) -> Result<(), Status> {
-        let bytes = fs::read(rt, self.path).map_err(|error| unread_for(rt, self.path, &error))?;
         let named = Named {
             id: None,
+            file: self.name,
             line: None,
         };
         let source = Source {
@@ -221,29 +230,49 @@ impl<'a> Player<'a> {
         Ok(())
     }
 
-    // Plays what a file or standard input holds.
-    fn play_all<R: Files<File = File> + Input + AllocGlobal + Eprint, W: Write>(
+    // Plays what the file holds. The error is that of a write.
+    fn play_opened<R: Files<File = File> + AllocGlobal + Eprint, W: Write>(
+        &mut self,
+        rt: &R,
+        out: &mut W,
+    ) -> Result<(), Status> {
+        if self.path.ends_with(".json") {
+            match fs::read(rt, self.path) {
+                Ok(bytes) => return self.play_file(rt, bytes, out),
+                Err(error) => self.leave_unread(unread_for(rt, self.path, &error)),
+            }
+            return Ok(());
+        }
+        let Ok(file) = fs::open(rt, self.path) else {
+            self.leave_unread(unread(rt, self.path));
+            return Ok(());
+        };
+        match BufReader::new(rt.alloc(), file) {
+            Ok(mut input) => return self.play_lines(rt, &mut input, out),
+            Err(_) => self.leave_unread(no_memory(rt, self.path)),
+        }
+        Ok(())
+    }
+
+    // Plays what the file or standard input holds. The error is that of a write.
+    fn play_source<R: Files<File = File> + Input + AllocGlobal + Eprint, W: Write>(
         &mut self,
         rt: &R,
         is_input: bool,
         out: &mut W,
     ) -> Result<(), Status> {
-        if is_input {
-            let Ok(mut input) = BufReader::new(rt.alloc(), rt.reader()) else {
-                return Err(no_memory(rt, self.path));
-            };
-            return self.play_lines(rt, &mut input, out);
+        let before = self.totals.count;
+        if !is_input {
+            self.play_opened(rt, out)?;
+        } else if let Ok(mut input) = BufReader::new(rt.alloc(), rt.reader()) {
+            self.play_lines(rt, &mut input, out)?;
+        } else {
+            self.leave_unread(no_memory(rt, self.path));
         }
-        if self.path.ends_with(".json") {
-            return self.play_file(rt, out);
+        if self.totals.count == before && !self.was_left {
+            self.leave_unread(fail(rt, "has no scenario", self.path, Status::Refused));
         }
-        let Ok(file) = fs::open(rt, self.path) else {
-            return Err(unread(rt, self.path));
-        };
-        let Ok(mut input) = BufReader::new(rt.alloc(), file) else {
-            return Err(no_memory(rt, self.path));
-        };
-        self.play_lines(rt, &mut input, out)
+        Ok(())
     }
 }
 
@@ -257,7 +286,39 @@ fn unread_line<R: Eprint>(rt: &R, path: &str, number: u64, error: &io::Error) ->
     Status::Device
 }
 
-/// Plays all scenarios, prints a line for each, and answers the status.
+// Plays what one of the files holds. The error is that of a write.
+fn play_one_of<R: Files<File = File> + Input + AllocGlobal + Eprint, W: Write>(
+    rt: &R,
+    args: PlayArgs<'_>,
+    outputs: Outputs,
+    file: &str,
+    totals: Totals,
+    out: &mut W,
+) -> Result<Totals, Status> {
+    let is_input = file == INPUT;
+    let path = if is_input { "standard input" } else { file };
+    let name = if args.files.len() > 1 {
+        let Ok(name) = Value::try_from_str(rt.alloc(), file) else {
+            return Err(no_memory(rt, path));
+        };
+        Some(name)
+    } else {
+        None
+    };
+    let mut player = Player {
+        path,
+        name: name.as_ref(),
+        slots: args.slots.unwrap_or(SLOTS),
+        outputs,
+        folder: args.folder,
+        was_left: false,
+        totals,
+    };
+    player.play_source(rt, is_input, out)?;
+    Ok(player.totals)
+}
+
+/// Plays all scenarios, prints a line for each, and answers the status. A file that can't be read doesn't stop the others.
 pub fn play_scenarios<R: Files<File = File> + Input + AllocGlobal + Eprint, W: Write>(
     rt: &R,
     args: PlayArgs<'_>,
@@ -266,27 +327,18 @@ pub fn play_scenarios<R: Files<File = File> + Input + AllocGlobal + Eprint, W: W
     let Some(outputs) = Outputs::of(args.outputs.unwrap_or("last")) else {
         return Err(refused_args(rt, NO_OUTPUTS));
     };
-    let (path, is_input) = match args.file {
-        Some(path) if path != "-" => (path, false),
-        _ => ("standard input", true),
-    };
-    let mut player = Player {
-        path,
-        slots: args.slots.unwrap_or(SLOTS),
-        outputs,
-        folder: args.folder,
-        count: 0,
-        all_done: true,
-    };
     let kept: Result<Vec<u8>, AllocError> = Vec::with_capacity(rt.alloc(), KEPT_BYTES);
     drop(kept);
-    player.play_all(rt, is_input, out)?;
-    if player.count == 0 {
-        return Err(fail(rt, "has no scenario", path, Status::Refused));
+    let mut totals = Totals {
+        count: 0,
+        all_done: true,
+        all_read: true,
+    };
+    if args.files.is_empty() {
+        totals = play_one_of(rt, args, outputs, INPUT, totals, out)?;
     }
-    Ok(if player.all_done {
-        Status::Whole
-    } else {
-        Status::Refused
-    })
+    for file in args.files {
+        totals = play_one_of(rt, args, outputs, file, totals, out)?;
+    }
+    Ok(totals.status())
 }

@@ -12,22 +12,49 @@ use disk::Memory;
 use json_values::Outline;
 use scenario_advice::faults_of;
 use scenario_player::{LiveError, PlayError, Played, calls_for, image_of, play, play_after};
+use serde_json::Value;
 use simulator::{Scenario, ScenarioFault, ends_of};
 use std::alloc::Global;
 use std::fs::File;
 use std::io::Write;
 use std::rt::Files;
 
+/// What was played of all files.
+#[derive(Clone, Copy)]
+pub(crate) struct Totals {
+    /// How many lives were played, and lines weren't.
+    pub count: u64,
+    /// Whether each life was played to its end.
+    pub all_done: bool,
+    /// Whether each file could be read.
+    pub all_read: bool,
+}
+
+impl Totals {
+    /// How the command ends.
+    pub(crate) fn status(self) -> Status {
+        if !self.all_read {
+            Status::Device
+        } else if !self.all_done {
+            Status::Refused
+        } else {
+            Status::Whole
+        }
+    }
+}
+
 /// The scenarios of a file, as far as they were played.
 #[derive(Drop)]
 pub(crate) struct Player<'a> {
     pub path: &'a str,
+    /// The name of the file for its lines; None where there is no other file.
+    pub name: Option<&'a Value>,
     pub slots: u32,
     pub outputs: Outputs,
     pub folder: Option<&'a str>,
-    /// How many lives were played, and lines weren't.
-    pub count: u64,
-    pub all_done: bool,
+    /// Whether it was reported that the file, or its end, isn't played.
+    pub was_left: bool,
+    pub totals: Totals,
 }
 
 /// Which scenario it is, and where its text is in its line.
@@ -82,6 +109,15 @@ enum Image {
 }
 
 impl<'a> Player<'a> {
+    /// What is left of the file isn't played, for a reason of this status.
+    pub(crate) fn leave_unread(&mut self, status: Status) {
+        self.was_left = true;
+        match status {
+            Status::Device => self.totals.all_read = false,
+            _ => self.totals.all_done = false,
+        }
+    }
+
     // The image of a life, where it is wanted.
     fn read_image(&self, alloc: Global, digest: bool, disk: &mut Memory) -> Image {
         if !digest && self.folder.is_none() {
@@ -101,8 +137,8 @@ impl<'a> Player<'a> {
     ) -> Result<Option<u64>, Status> {
         match (self.folder, image) {
             (Some(folder), Some(image)) => {
-                write_image(rt, folder, self.count, image)?;
-                Ok(Some(self.count))
+                write_image(rt, folder, self.totals.count, image)?;
+                Ok(Some(self.totals.count))
             }
             _ => Ok(None),
         }
@@ -115,7 +151,7 @@ impl<'a> Player<'a> {
         turn: Turn<'_>,
         out: &mut W,
     ) -> Result<(), Status> {
-        self.all_done = false;
+        self.totals.all_done = false;
         let written = match turn {
             Turn::Only(named) => write_unplayed(named, "no_memory", "NoMemory", out),
             Turn::First => write_next_unplayed(false, out),
@@ -134,7 +170,7 @@ impl<'a> Player<'a> {
         digest: bool,
         out: &mut W,
     ) -> Result<(), Status> {
-        self.count = self.count.saturating_add(1);
+        self.totals.count = self.totals.count.saturating_add(1);
         let bytes = match self.read_image(rt.alloc(), digest, &mut played.disk) {
             Image::Unread => None,
             Image::Read(image) => Some(image),
@@ -147,7 +183,7 @@ impl<'a> Player<'a> {
         let step = match played.ended {
             Ok(()) => None,
             Err(error) => {
-                self.all_done = false;
+                self.totals.all_done = false;
                 step_of(rt.alloc(), scenario, error)
             }
         };
@@ -172,7 +208,7 @@ impl<'a> Player<'a> {
         named: Named<'_>,
         out: &mut W,
     ) -> Result<(), Status> {
-        self.count = self.count.saturating_add(1);
+        self.totals.count = self.totals.count.saturating_add(1);
         self.print_unplayed(rt, Turn::Only(named), out)
     }
 
@@ -194,8 +230,8 @@ impl<'a> Player<'a> {
         if let ScenarioFault::NoMemory = first.fault {
             return self.print_no_memory(rt, source.named, out);
         }
-        self.count = self.count.saturating_add(1);
-        self.all_done = false;
+        self.totals.count = self.totals.count.saturating_add(1);
+        self.totals.all_done = false;
         let (number, fault, wanted) = (first.fault.number(), first.fault, first.wanted);
         let (before, pointer) = (source.pointer, outline.pointer(first.place));
         reported(rt, self.path, write_refused(source.named, out))?;
@@ -222,8 +258,8 @@ impl<'a> Player<'a> {
         if let ScenarioFault::NoMemory = found.fault {
             return self.print_no_memory(rt, named, out);
         }
-        self.count = self.count.saturating_add(1);
-        self.all_done = false;
+        self.totals.count = self.totals.count.saturating_add(1);
+        self.totals.all_done = false;
         reported(rt, self.path, write_fault(named, found, out))
     }
 

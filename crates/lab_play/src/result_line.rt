@@ -44,6 +44,8 @@ impl Outputs {
 pub(crate) struct Named<'v> {
     /// Its name.
     pub id: Option<&'v Value>,
+    /// The name of its file; None where there is only one.
+    pub file: Option<&'v Value>,
     /// The number of its line, from 1 on; None in a file of its own.
     pub line: Option<u64>,
 }
@@ -176,6 +178,9 @@ fn write_named<W: Write>(named: Named<'_>, out: &mut W) -> io::Result<()> {
     match named.id {
         Some(id) => write!(out, "{{\"id\":{id}")?,
         None => out.write_all(b"{\"id\":null")?,
+    }
+    if let Some(file) = named.file {
+        write!(out, ",\"file\":{file}")?;
     }
     write_pieces(
         Form::Json,

@@ -1,5 +1,5 @@
 use Rattle.std.proofs.Common.{codes, refl, true}
-use Rattle.clap.specs.Words.{App, Shape, new_app}
+use Rattle.clap.specs.Words.{Shape, new_app}
 use Rattle.clap.specs.Simple.{on_top}
 use Rattle.command_line.specs.Arguments.{IsApp}
 use Rattle.command_line.proofs.Apps.{with_setting}

@@ -440,7 +440,7 @@ ETCS_MUST_USE
 static inline uint32_t etcs_executive_begin(etcs_executive *executive, const etcs_equipment *equipment, uint32_t cold) {
     uint64_t digest = 0;
     uint32_t status = (uint32_t)ETCS_UNIT_OK;
-    if ((executive->unit.is_open != 0u) || (executive->unit.is_under_way != 0u)) {
+    if (executive->unit.is_open != 0u) {
         return (uint32_t)ETCS_UNIT_IS_OPEN;
     }
     etcs_executive_clear_(executive, equipment);

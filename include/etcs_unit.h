@@ -300,10 +300,8 @@ enum etcs_acknowledgement {
 
 /** A unit, in the caller's memory, from its power-up on. Its fields are the library's. */
 typedef struct {
-    void *at;              /**< where the unit is */
-    uint64_t is_open;      /**< 1 where it is open, else 0 */
-    void *power_up;        /**< where its power-up is */
-    uint64_t is_under_way; /**< 1 where that is under way, else 0 */
+    void *at;         /**< where it is */
+    uint64_t is_open; /**< 1 where it is open or its power-up is under way, else 0 */
 } etcs_unit;
 
 /** An output that may reach the train. */
@@ -503,7 +501,7 @@ typedef struct {
 } etcs_packet_unused;
 
 /* (where a pointer has fewer than 64 bits, a number of 64 bits may stand at other places: such a machine has the C source alone) */
-ETCS_UNIT_ASSERT((sizeof(void *) < 8u) || ((sizeof(etcs_unit) == 32u) && (offsetof(etcs_unit, is_under_way) == 24u)));
+ETCS_UNIT_ASSERT((sizeof(void *) < 8u) || ((sizeof(etcs_unit) == 16u) && (offsetof(etcs_unit, is_open) == 8u)));
 ETCS_UNIT_ASSERT(sizeof(etcs_unit_output) == 16u && offsetof(etcs_unit_output, limit_m_per_h) == 8u && offsetof(etcs_unit_output, mode) == 12u
                  && offsetof(etcs_unit_output, level) == 13u && offsetof(etcs_unit_output, brake) == 14u && offsetof(etcs_unit_output, indications) == 15u);
 ETCS_UNIT_ASSERT(sizeof(etcs_unit_request_info) == 24u && offsetof(etcs_unit_request_info, sectors) == 8u && offsetof(etcs_unit_request_info, kind) == 16u);

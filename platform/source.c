@@ -129,17 +129,15 @@ uint32_t etcs_source_put(const void *from, uint64_t size, const char *fields) {
 }
 
 uint32_t etcs_source_put_handle(const etcs_unit *unit) {
-    const uint64_t all[4] = {(uint64_t)(uintptr_t)unit->at, unit->is_open, (uint64_t)(uintptr_t)unit->power_up, unit->is_under_way};
+    const uint64_t all[2] = {(uint64_t)(uintptr_t)unit->at, unit->is_open};
     return etcs_source_put(all, sizeof all, "8");
 }
 
 void etcs_source_get_handle(uint32_t from, etcs_unit *unit) {
-    uint64_t all[4];
+    uint64_t all[2];
     etcs_source_read(all, from, sizeof all, "8");
     unit->at = (void *)(uintptr_t)all[0];
     unit->is_open = all[1];
-    unit->power_up = (void *)(uintptr_t)all[2];
-    unit->is_under_way = all[3];
 }
 
 int etcs_source_is_refused(void) {

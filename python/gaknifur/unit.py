@@ -734,7 +734,7 @@ class AnyUnit(ABC):
         return _unit_why(info)
 
     def driver(self) -> UnitDriver:
-        """What the driver entered, and which actions of the driver the unit would accept now. NOT_RELEASED as for `why`."""
+        """What the driver entered, with its statuses, and which actions of the driver the unit would accept now. NOT_RELEASED as for `why`."""
         info = _header.etcs_unit_driver_info()
         self._call("driver", ctypes.byref(info))
         return _unit_driver(info)

@@ -468,16 +468,18 @@ class Calls(OverTheLibrary):
         """By hand: what was entered, and what is accepted in Stand By, in Staff Responsible and after a power-up of a train that was moved."""
         national = (30_000, 40_000, 30_000, 100_000, 40_000, 200, 0, 30_000, 20_000, 60_000, None)
         nothing = Kept(False, None, None, None, (Datum.UNKNOWN, None), (Datum.UNKNOWN, None), national, ())
+        unknown = (*[Datum.UNKNOWN] * 3, *[False] * 4)
+        given = (Datum.VALID, Datum.UNKNOWN, Datum.VALID, True, True, True)
         levels = {Action.CHOOSE_LEVEL_0, Action.CHOOSE_LEVEL_1}
         confirms = {Action.CONFIRM_IDENTITY, Action.CONFIRM_TRAIN_DATA, Action.CONFIRM_LEVEL}
         medium = MemoryMedium.formatted(4)
         with Unit(medium) as unit:
-            self.assertEqual(unit.driver(), UnitDriver(nothing, 0, Mode.STAND_BY, frozenset(levels), True, True, True, False))
+            self.assertEqual(unit.driver(), UnitDriver(nothing, 0, Mode.STAND_BY, frozenset(levels), True, True, True, False, *unknown))
             unit.odometer(10, 300)
             with self.refused(Status.NOT_RELEASED):
                 unit.driver()
             unit.flush()
-            self.assertEqual(unit.driver(), UnitDriver(nothing, 300, Mode.STAND_BY, frozenset(), False, False, False, False))
+            self.assertEqual(unit.driver(), UnitDriver(nothing, 300, Mode.STAND_BY, frozenset(), False, False, False, False, *unknown))
             unit.odometer(0, 0)
             unit.identity("IC 704")
             unit.train_data(TRAIN)
@@ -485,16 +487,22 @@ class Calls(OverTheLibrary):
             unit.flush()
             entered = Kept(False, b"IC 704", None, TRAIN, (Datum.VALID, Level.LEVEL_1), (Datum.UNKNOWN, None), national, ())
             leaves = {Action.START, Action.CHOOSE_SHUNTING}
-            self.assertEqual(unit.driver(), UnitDriver(entered, 0, Mode.STAND_BY, frozenset(levels | confirms | leaves), True, True, True, False))
+            self.assertEqual(unit.driver(), UnitDriver(entered, 0, Mode.STAND_BY, frozenset(levels | confirms | leaves), True, True, True, False,
+                                                       *given, False))
             unit.action(Action.START)
             unit.flush()
             accepted = frozenset({Action.CHOOSE_SHUNTING, Action.OVERRIDE, Action.CLOSE_DESK})
-            self.assertEqual(unit.driver(), UnitDriver(entered, 0, Mode.STAFF_RESPONSIBLE, accepted, False, False, False, True))
+            self.assertEqual(unit.driver(), UnitDriver(entered, 0, Mode.STAFF_RESPONSIBLE, accepted, False, False, False, True, *given, True))
         with self.refused(Status.NOT_OPEN):
             unit.driver()
+        with Unit(medium, Cold.NOT_MOVED) as unit:
+            driver = unit.driver()
+            self.assertEqual((driver.gave_identity, driver.gave_level, driver.gave_train, driver.has_left), (False, True, False, False))
         with Unit(medium, Cold.MOVED) as unit:
             driver = unit.driver()
             self.assertEqual((driver.kept.level, driver.kept.identity, driver.kept.train), ((Datum.INVALID, Level.LEVEL_1), b"IC 704", TRAIN))
+            self.assertEqual((driver.identity, driver.running_number, driver.train_data), (Datum.INVALID, Datum.UNKNOWN, Datum.INVALID))
+            self.assertEqual((driver.gave_identity, driver.gave_level, driver.gave_train, driver.has_left), (False, False, False, False))
             self.assertEqual((driver.accepts, driver.is_revalidated), (levels | confirms, False))
 
     def test_the_version(self) -> None:

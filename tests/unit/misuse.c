@@ -250,7 +250,7 @@ static void power_up_by_sectors(const medium *on) {
     const uint64_t sectors = on->len / ETCS_UNIT_SECTOR;
     uint64_t sector = 77, handed = 0;
     is("begin", etcs_unit_begin(&unit, sectors, ETCS_COLD_MOVED), ETCS_UNIT_OK);
-    while (unit.is_open == 0 && to_read(&unit, &sector) == ETCS_UNIT_OK) {
+    while (etcs_unit_state(&unit, &state) == ETCS_UNIT_NOT_OPEN && to_read(&unit, &sector) == ETCS_UNIT_OK) {
         is("the first one", handed > 0 || sector == 0, 1);
         is("begun twice", etcs_unit_begin(&unit, sectors, 0), ETCS_UNIT_IS_OPEN);
         is("opened meanwhile", etcs_unit_open(&unit, on->bytes, on->len, 0), ETCS_UNIT_IS_OPEN);
@@ -259,7 +259,7 @@ static void power_up_by_sectors(const medium *on) {
         is("provide", etcs_unit_provide(&unit, sector, sector_of(on, sector), ETCS_UNIT_SECTOR), ETCS_UNIT_OK);
         handed++;
     }
-    is("it is open", unit.is_open == 1 && unit.is_under_way == 0, 1);
+    is("it is open", etcs_unit_state(&unit, &state), ETCS_UNIT_OK);
     is("it read some", handed > 1, 1);
     is("a unit is open already", etcs_unit_begin(&unit, sectors, 0), ETCS_UNIT_IS_OPEN);
     is("prepare before the power-up is done", etcs_unit_prepare(&unit), ETCS_UNIT_REQUESTS_OWED);

@@ -165,7 +165,7 @@ static uint32_t wants;
 
 /* A power-up whose read fails after some sectors is abandoned, and writes nothing. */
 static void give_up(const medium *on, uint32_t cold) {
-    etcs_unit unit = {NULL, 0, NULL, 0};
+    etcs_unit unit = {NULL, 0};
     uint64_t sector;
     is("a power-up", etcs_unit_begin(&unit, on->len / ETCS_UNIT_SECTOR, cold), ETCS_UNIT_OK);
     for (uint32_t sectors = draw(5); is_to_read(&unit, &sector) && sectors > 0; sectors--)
@@ -210,7 +210,7 @@ static void life(side *copy, side *few) {
 /* What no power-up can be of: the answers are those over a copy. */
 static void refusals(const medium *on) {
     medium bad = {(uint8_t *)malloc(on->len), on->len};
-    etcs_unit unit = {NULL, 0, NULL, 0};
+    etcs_unit unit = {NULL, 0};
     for (uint32_t i = 0; i < 600; i++) {
         const uint32_t at = draw(4) ? draw(SLOTS) * 6 * ETCS_UNIT_SECTOR + draw(3 * ETCS_UNIT_SECTOR) : draw((uint32_t)bad.len);
         memcpy(bad.bytes, on->bytes, on->len);
@@ -225,7 +225,7 @@ static void refusals(const medium *on) {
 }
 
 int main(void) {
-    side copy = {formatted(SLOTS), {NULL, 0, NULL, 0}}, few = {formatted(SLOTS), {NULL, 0, NULL, 0}};
+    side copy = {formatted(SLOTS), {NULL, 0}}, few = {formatted(SLOTS), {NULL, 0}};
     for (uint32_t i = 0; i < LIVES; i++)
         life(&copy, &few);
     is("a sector is read in many of the other flushes", wants >= 100, 1);

@@ -18,7 +18,7 @@ typedef struct {
 } life;
 
 static life begun(uint32_t which) {
-    life of = {formatted(SLOTS), {NULL, 0, NULL, 0}, which, 0, 0};
+    life of = {formatted(SLOTS), {NULL, 0}, which, 0, 0};
     return of;
 }
 

@@ -32,12 +32,11 @@ pub extern "C" fn etcs_unit_open_(
 /// Reports what is to be done next on the medium, and the bytes that it writes.
 #[unsafe(no_mangle)]
 pub extern "C" fn etcs_unit_request_(
-    alloc: Global,
     unit: &mut EtcsUnit,
     request: &mut EtcsRequest,
     bytes: &mut [u8],
 ) -> u32 {
-    unit_request_call(alloc, unit, request, bytes).number()
+    unit_request_call(unit, request, bytes).number()
 }
 
 /// Hands in what the medium holds of a sector, and goes on.

@@ -11,7 +11,7 @@ use unit_calls::{
 /// Takes the bytes that a balise sent.
 #[unsafe(no_mangle)]
 pub extern "C" fn etcs_unit_telegram_(alloc: Global, unit: &mut EtcsUnit, bytes: &[u8]) -> u32 {
-    telegram_call(alloc, &mut unit.running, bytes).number()
+    telegram_call(alloc, unit, bytes).number()
 }
 
 /// Takes a reading of the odometer, in centimetres and metres per hour.
@@ -22,25 +22,25 @@ pub extern "C" fn etcs_unit_odometer_(
     movement: i64,
     speed: u32,
 ) -> u32 {
-    odometer_call(alloc, &mut unit.running, movement, speed).number()
+    odometer_call(alloc, unit, movement, speed).number()
 }
 
 /// Takes a moment, in milliseconds.
 #[unsafe(no_mangle)]
 pub extern "C" fn etcs_unit_clock_(alloc: Global, unit: &mut EtcsUnit, moment: u64) -> u32 {
-    clock_call(alloc, &mut unit.running, moment).number()
+    clock_call(alloc, unit, moment).number()
 }
 
 /// Takes an action of the driver, 1 to 15.
 #[unsafe(no_mangle)]
 pub extern "C" fn etcs_unit_action_(alloc: Global, unit: &mut EtcsUnit, action: u32) -> u32 {
-    action_call(alloc, &mut unit.running, action).number()
+    action_call(alloc, unit, action).number()
 }
 
 /// Takes an identity that the driver enters.
 #[unsafe(no_mangle)]
 pub extern "C" fn etcs_unit_identity_(alloc: Global, unit: &mut EtcsUnit, bytes: &[u8]) -> u32 {
-    identity_call(alloc, &mut unit.running, bytes).number()
+    identity_call(alloc, unit, bytes).number()
 }
 
 /// Takes a running number that the driver enters.
@@ -50,7 +50,7 @@ pub extern "C" fn etcs_unit_running_number_(
     unit: &mut EtcsUnit,
     number: u32,
 ) -> u32 {
-    running_number_call(alloc, &mut unit.running, number).number()
+    running_number_call(alloc, unit, number).number()
 }
 
 /// Takes train data that the driver enters.
@@ -60,19 +60,19 @@ pub extern "C" fn etcs_unit_train_data_(
     unit: &mut EtcsUnit,
     train: &EtcsTrainData,
 ) -> u32 {
-    train_data_call(alloc, &mut unit.running, train).number()
+    train_data_call(alloc, unit, train).number()
 }
 
 /// Puts what is pending onto the copy.
 #[unsafe(no_mangle)]
 pub extern "C" fn etcs_unit_prepare_(unit: &mut EtcsUnit) -> u32 {
-    prepare_call(&mut unit.running).number()
+    prepare_call(unit).number()
 }
 
 /// Says that the request that is reported is done.
 #[unsafe(no_mangle)]
 pub extern "C" fn etcs_unit_done_(unit: &mut EtcsUnit) -> u32 {
-    done_call(&mut unit.running).number()
+    done_call(unit).number()
 }
 
 /// Releases what was held back, all of it, into a buffer for eight.
@@ -82,25 +82,25 @@ pub extern "C" fn etcs_unit_release_(
     outputs: &mut [EtcsOutput],
     count: &mut u32,
 ) -> u32 {
-    release_call(&mut unit.running, outputs, count).number()
+    release_call(unit, outputs, count).number()
 }
 
 /// Reports how far the unit is.
 #[unsafe(no_mangle)]
 pub extern "C" fn etcs_unit_state_(unit: &mut EtcsUnit, state: &mut EtcsState) -> u32 {
-    state_call(&mut unit.running, state).number()
+    state_call(unit, state).number()
 }
 
 /// Reports why the newest released output is what it is.
 #[unsafe(no_mangle)]
 pub extern "C" fn etcs_unit_why_(unit: &mut EtcsUnit, why: &mut EtcsUnitWhy) -> u32 {
-    unit_why_call(&mut unit.running, why).number()
+    unit_why_call(unit, why).number()
 }
 
 /// Reports what the driver entered, and which actions of the driver would be accepted.
 #[unsafe(no_mangle)]
 pub extern "C" fn etcs_unit_driver_(unit: &mut EtcsUnit, driver: &mut EtcsUnitDriver) -> u32 {
-    unit_driver_call(&mut unit.running, driver).number()
+    unit_driver_call(unit, driver).number()
 }
 
 /// The number of this interface.

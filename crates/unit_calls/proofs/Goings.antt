@@ -1,5 +1,5 @@
 -- What came of going on, as the call says it.
-use Rattle.std.proofs.Common.{◌≡◌, ℕ, [], List, false, Option, Some, None, Result, Ok, Err, IfOk, IfSome, IsSome, is_some, sym, subst}
+use Rattle.std.proofs.Common.{◌≡◌, ℕ, [], List, false, Result, Ok, Err, IfOk, IfSome, IsSome}
 use Rattle.events.specs.declared.input.Event.{Event}
 use Rattle.unit_start.specs.Lives.{IsReady}
 use Rattle.unit_start.specs.declared.errors.OpenError.{OpenError}
@@ -9,9 +9,6 @@ use Rattle.relayed_unit.specs.Relayed.{Continued}
 use Rattle.relayed_unit.specs.declared.powering_up.Going.{Going}
 use Rattle.relayed_unit.specs.declared.powering_up.Going.TheVariants as a_going
 use Rattle.unit_calls.specs.PowerUps.{before_any, IsUp}
-use Rattle.unit_calls.specs.declared.handle.Opened.{Opened}
-use Rattle.unit_calls.specs.declared.status.Status.{Status}
-use Rattle.unit_calls.specs.Goings.{IsGoneOn, IsLeftOn, GoesOn}
 
 -- a unit that came of it was powered up over what the medium held
 pub ups : (before : Opening) (reported : Result Going OpenError)
@@ -30,15 +27,3 @@ ups before (Ok (a_going.Open u)) fresh there sectors up medium going = record {
   sectors = sectors;
   up = λ whole_from durable accepted ready. up medium whole_from durable accepted going ready;
 }
-
--- where no unit was open, and this power-up was under way
-module _ (current : Opening) (reported : Result Going OpenError) (after : Option Opening) (unit : Option Opened) (status : Status) where
-  closed_went : (old : Option Opened) → is_some old ≡ false → IsGoneOn current reported → IsLeftOn reported after unit status → GoesOn (Some current) old after unit status
-  closed_went (Some opened) shut gone left = absurd cc
-  closed_went None shut gone left = (reported, gone, left)
-
-  pub went : (before : Option Opening) (old : Option Opened) → before ≡ Some current → is_some old ≡ false → IsGoneOn current reported → IsLeftOn reported after unit status
-      → GoesOn before old after unit status
-  went before old is shut gone left =
-      let G : Option Opening → Type 0 = λ o. GoesOn o old after unit status in
-      subst G (sym is) (closed_went old shut gone left)

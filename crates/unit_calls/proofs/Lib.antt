@@ -9,7 +9,6 @@ pub mod HeldValues
 pub mod Histories
 pub mod Parts
 pub mod Permitting
-pub mod PlaceValues
 pub mod Providing
 pub mod Releasing
 pub mod Taking

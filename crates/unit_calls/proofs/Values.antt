@@ -14,7 +14,7 @@ use denote.Param.{layout}
 use denote.Struct.Struct.{within}
 use denote.Struct.Owning.{shape}
 use Rattle.unit_calls.specs.Owned.{raw_owns}
-use Rattle.unit_calls.specs.declared.handle.Opened.{Opened}
+use Rattle.unit_calls.specs.declared.handle.Content.{Content}
 use Rattle.unit_calls.specs.contracts.raw.Raw as raw
 
 abbrev pub one : Val → Val
@@ -32,7 +32,7 @@ module _ {M : Type 1} {𝓤 : Ura M} {𝓛 : Logic 𝓤} {K : Type 0} {Γ : List
   raw_out t d vs k = fsplit t $ fpick t (λ vss. fsplit t $ feq_l t (λ ev. fsplit t $ feq_l t (λ ep. drop t $ k
       (subst (λ (ps : List Val). vs ≡ vstruct (of_list (ps ++ [])) ∷ []) ep ev))))
 
-  pub raw_in : K → (p : Ptr) (o : Option Opened) → Step K 𝓛 (‵ (Raw.own_val (record { at = p; value = o }) (one (ptr_val p) ∷ [])) ∷ Γ) G (‵ (raw_owns p o) ∷ Γ) G
+  pub raw_in : K → (p : Ptr) (o : Option Content) → Step K 𝓛 (‵ (Raw.own_val (record { at = p; value = o }) (one (ptr_val p) ∷ [])) ∷ Γ) G (‵ (raw_owns p o) ∷ Γ) G
   raw_in t p o = step (λ s. let v : Val = one (ptr_val p) in
       nothing t $ feq_i t (List Val) (ptr_val p ∷ []) (ptr_val p ∷ []) refl $ fjoin t $ feq_i t (List Val) (v ∷ []) (v ∷ []) refl $ fjoin t $
       fpack t (Valss (RawPtr ∷ [])) (within (shape raw.the_type) (p, tt) (v ∷ [])) (ptr_val p ∷ [], tt) $ fjoin t $ s)

@@ -1,9 +1,10 @@
--- What going on with a power-up leaves in its handle and in that of the unit (this project's profile).
+-- What going on with a power-up leaves in its handle (this project's profile).
 use Rattle.std.specs.Prelude.{◌≡◌, ℕ, ◌<◌, ◌≤◌, List, Option, Some, None, Result, Ok, Err, IfOk, IfErr, IfSome, false}
 use Rattle.disk.specs.State.{contents_of}
 use Rattle.onboard.specs.Flushes.{without_disk}
 use Rattle.unit_start.specs.Answers.{is_device}
 use Rattle.unit_start.specs.PowersUp.{IsFresh, IsAnswerTo}
+use Rattle.unit_start.specs.Releases.{nothing_released}
 use Rattle.unit_start.specs.declared.errors.OpenError.{OpenError}
 use Rattle.unit_start.specs.declared.errors.OpenError.TheVariants as an_open
 use Rattle.relayed_unit.specs.Goings.{OnWants, OnOpen, OnAnswer}
@@ -11,9 +12,10 @@ use Rattle.relayed_unit.specs.Openings.{Opening, medium_state, still_needed, IsG
 use Rattle.relayed_unit.specs.Relayed.{WantsNothing}
 use Rattle.relayed_unit.specs.declared.powering_up.Going.{Going}
 use Rattle.relayed_unit.specs.declared.powering_up.Going.TheVariants as a_going
-use Rattle.unit_calls.specs.Handles.{IsLeft}
 use Rattle.unit_calls.specs.PowerUps.{before_any, IsUp}
-use Rattle.unit_calls.specs.declared.handle.Opened.{Opened}
+use Rattle.unit_calls.specs.Statuses.{of_open}
+use Rattle.unit_calls.specs.declared.handle.Content.{Content}
+use Rattle.unit_calls.specs.declared.handle.Content.TheVariants as a_content
 use Rattle.unit_calls.specs.declared.status.Status.{Status}
 use Rattle.unit_calls.specs.declared.status.Status.TheVariants as a_status
 
@@ -43,16 +45,18 @@ pub record IsGoneOn (before : Opening) (reported : Result Going OpenError) : Typ
   -- a medium of no sector isn't formatted
   pub none : before.disk.sectors ≡ 0 → reported ≡ Err an_open.NotFormatted
 
--- it goes on in its handle and says so; else that has none, and the unit is in its own, or there was no memory for it
--- there, or it was refused
-abbrev pub IsLeftOn : Result Going OpenError → Option Opening → Option Opened → Status → Type 0
-IsLeftOn (Ok (a_going.Wants current)) after unit status = (status ≡ a_status.Done) × (after ≡ Some current) × (unit ≡ None)
-IsLeftOn (Ok (a_going.Open up)) after unit status = (after ≡ None) × IsLeft (Ok up) unit status
-IsLeftOn (Err e) after unit status = (after ≡ None) × IsLeft (Err e) unit status
+-- the power-up that goes on is in the handle, or the unit that came of it, which released nothing yet; else nothing is
+abbrev pub IsLeftOn : Result Going OpenError → Option Content → Status → Type 0
+IsLeftOn (Ok (a_going.Wants current)) after status = (status ≡ a_status.Done) × (after ≡ Some (a_content.PowerUp current))
+IsLeftOn (Ok (a_going.Open up)) after status =
+    (status ≡ a_status.Done) × (after ≡ Some (a_content.Unit (record { unit = up; last = nothing_released })))
+IsLeftOn (Err e) after status = (status ≡ of_open e) × (after ≡ None)
 
--- a power-up goes on: IsOpen where a unit is open there, and NotOpen where no power-up is under way; then nothing changes
-abbrev pub GoesOn : Option Opening → Option Opened → Option Opening → Option Opened → Status → Type 0
-GoesOn before (Some current) after unit status = (status ≡ a_status.IsOpen) × (after ≡ before) × (unit ≡ Some current)
-GoesOn None None after unit status = (status ≡ a_status.NotOpen) × (after ≡ None) × (unit ≡ None)
-GoesOn (Some before) None after unit status =
-    (reported : Result Going OpenError) × IsGoneOn before reported × IsLeftOn reported after unit status
+-- a power-up goes on
+abbrev pub GoesOn : Opening → Option Content → Status → Type 0
+GoesOn before after status = (reported : Result Going OpenError) × IsGoneOn before reported × IsLeftOn reported after status
+
+-- the power-up of a handle goes on
+abbrev pub Resumes : Option Content → Option Content → Status → Type 0
+Resumes (Some (a_content.PowerUp opening)) after status = GoesOn opening after status
+Resumes before after status = Unit {0}

@@ -236,8 +236,3 @@ abbrev pub OpensFrom : List ℕ → ℕ → ℕ → Option Opened → Option Ope
 OpensFrom image cold abi (Some before) after status = (status ≡ a_status.IsOpen) × (after ≡ Some before)
 OpensFrom image cold abi None after status =
     IfElse (abi == this_abi) (PowersUpInto image (cold_by cold) after status) ((status ≡ a_status.OtherAbi) × (after ≡ None))
-
--- what closing answers
-abbrev pub closing : Option Opened → Status
-closing None = a_status.NotOpen
-closing (Some opened) = a_status.Done

@@ -1,3 +1,5 @@
+pub mod ColdNumbers
+pub mod Contents
 pub mod Drivers
 pub mod Endings
 pub mod Formatting
@@ -11,8 +13,6 @@ pub mod Mediums
 pub mod Openings
 pub mod Outputs
 pub mod Owned
-pub mod PlaceOwned
-pub mod Places
 pub mod PowerUps
 pub mod Requests
 pub mod Sectors
@@ -20,4 +20,3 @@ pub mod Statuses
 pub mod Units
 pub mod Versions
 pub mod Whys
-pub mod ColdNumbers

@@ -1,10 +1,10 @@
 //! What the driver entered, and which actions of the driver would be accepted.
 ghost use Rattle.std.specs.Prelude.{◌≡◌};
 ghost use Rattle.unit_calls.specs.Drivers.{AsksUnitDriver};
-ghost use Rattle.unit_calls.specs.Handles.{OnHandleInto};
+ghost use Rattle.unit_calls.specs.Contents.{OnUnitInto};
 
 use crate::driver_values::{EtcsUnitDriver, driver_reported};
-use crate::handle::{Opened, UnitHandle};
+use crate::handle::{Content, EtcsUnit, Opened};
 use crate::status::Status;
 
 // Reports it of this unit, where its newest output is released.
@@ -22,12 +22,9 @@ fn describe(opened: &Opened, driver: &mut EtcsUnitDriver) -> Status
 
 /// Reports what the driver entered, and which actions of the driver would be accepted as the next event: NotReleased while
 /// an event is pending or requests aren't released, and then nothing is written. Nothing changes.
-pub fn unit_driver_call(unit: &mut UnitHandle, driver: &mut EtcsUnitDriver) -> Status
-    ensures { OnHandleInto (driver.new ≡ driver.old) unit.old.raw.value unit.new.raw.value result
+pub fn unit_driver_call(unit: &mut EtcsUnit, driver: &mut EtcsUnitDriver) -> Status
+    ensures { OnUnitInto (driver.new ≡ driver.old) unit.old.raw.value unit.new.raw.value result
         (λ before after reported. (after ≡ before) × AsksUnitDriver before driver.old driver.new reported) }
 {
-    if !unit.has_unit() {
-        return Status::NotOpen;
-    }
-    describe(unit.raw.as_mut(), driver)
+    on_unit!(unit, opened => describe(opened, driver))
 }

@@ -1,9 +1,9 @@
 //! Why the newest released output is what it is.
 ghost use Rattle.std.specs.Prelude.{◌≡◌};
-ghost use Rattle.unit_calls.specs.Handles.{OnHandleInto};
+ghost use Rattle.unit_calls.specs.Contents.{OnUnitInto};
 ghost use Rattle.unit_calls.specs.Whys.{AsksUnitWhy};
 
-use crate::handle::{Opened, UnitHandle};
+use crate::handle::{Content, EtcsUnit, Opened};
 use crate::status::Status;
 use crate::why::{EtcsUnitWhy, why_reported};
 
@@ -23,12 +23,9 @@ fn explain(opened: &Opened, why: &mut EtcsUnitWhy) -> Status
 
 /// Why the newest released output is what it is, and what a display shows of it: NotReleased while an event is pending
 /// or requests aren't released, and then nothing is written. Nothing changes.
-pub fn unit_why_call(unit: &mut UnitHandle, why: &mut EtcsUnitWhy) -> Status
-    ensures { OnHandleInto (why.new ≡ why.old) unit.old.raw.value unit.new.raw.value result
+pub fn unit_why_call(unit: &mut EtcsUnit, why: &mut EtcsUnitWhy) -> Status
+    ensures { OnUnitInto (why.new ≡ why.old) unit.old.raw.value unit.new.raw.value result
         (λ before after reported. (after ≡ before) × AsksUnitWhy before why.old why.new reported) }
 {
-    if !unit.has_unit() {
-        return Status::NotOpen;
-    }
-    explain(unit.raw.as_mut(), why)
+    on_unit!(unit, opened => explain(opened, why))
 }

@@ -2,28 +2,36 @@
 //! contracts.
 #![tactic(auto)]
 
+// What the unit of a handle answers to a call; NotOpen where it has none.
+macro_rules! on_unit {
+    ($handle:expr, $opened:ident => $answer:expr) => {
+        if $handle.is_open() {
+            match $handle.raw.as_mut() {
+                Content::Unit($opened) => $answer,
+                Content::Nothing | Content::PowerUp(_) => Status::NotOpen,
+            }
+        } else {
+            Status::NotOpen
+        }
+    };
+}
+
 mod call_values;
 mod driver_values;
 mod driving;
 mod events_in;
 mod explaining;
 mod formatting;
-mod going;
 mod handle;
 mod held;
 mod inputs;
 mod laws;
 mod opening;
 mod outputs;
-mod place;
-mod place_sectors;
 mod raw;
-mod raw_place;
 mod relaying;
 mod sectors;
-mod starting;
 mod status;
-mod unit;
 mod version;
 mod why;
 
@@ -36,17 +44,15 @@ pub use events_in::{
 };
 pub use explaining::unit_why_call;
 pub use formatting::format_request_call;
-pub use handle::{Opened, UnitHandle};
+pub use handle::{Content, EtcsUnit, Opened};
 pub use inputs::EtcsTrainData;
 pub use laws::{format_empties, handed_out_is_on_medium, on_medium_is_held, power_up_ends};
-pub use opening::put_unit;
+pub use opening::{unit_begin_call, unit_close_call, unit_open_call};
 pub use outputs::{EtcsOutput, EtcsState};
-pub use place::{OpeningHandle, Place};
-pub use relaying::{done_call, prepare_call, release_call, state_call};
-pub use status::Status;
-pub use unit::{
-    EtcsUnit, unit_begin_call, unit_close_call, unit_fail_call, unit_open_call, unit_provide_call,
-    unit_request_call,
+pub use relaying::{
+    done_call, prepare_call, release_call, state_call, unit_fail_call, unit_request_call,
 };
+pub use sectors::unit_provide_call;
+pub use status::Status;
 pub use version::version_call;
 pub use why::EtcsUnitWhy;

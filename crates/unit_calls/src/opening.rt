@@ -1,57 +1,55 @@
-//! Opening and closing.
-ghost use Rattle.std.specs.Prelude.{◌≡◌, None};
-ghost use Rattle.unit_calls.specs.Handles.{IsLeft, OpensFrom, PowersUpInto, closing};
+//! Powering up, at once or sector by sector, and closing.
+ghost use Rattle.std.specs.Prelude.{◌≡◌, ◌*◌, ℕ, List, None, length};
+ghost use Rattle.unit_calls.specs.Contents.{closing, unit_in, under_way};
+ghost use Rattle.unit_calls.specs.Goings.{GoesOn, IsLeftOn};
+ghost use Rattle.unit_calls.specs.Handles.{PowersUpInto};
+ghost use Rattle.unit_calls.specs.Units.{BeginsUnit, Begins, OpensUnit};
 
 use crate::call_values::cold_of_number;
-use crate::handle::{Opened, UnitHandle, handle_of, taken};
+use crate::handle::{Content, EtcsUnit, Opened, handle_of, taken};
 use crate::status::{Status, of_open};
 use c_numbers::ABI;
 use mode_table::Cold;
 use onboard::{OpenError, Released};
-use relayed_unit::RelayedUnit;
+use relayed_unit::{Going, RelayedUnit, UnitOpening};
 use std::alloc::Global;
 
-/// Puts a unit that was powered up into a handle that has none; what refused the power-up is answered by its status.
-/// OpenNoMemory where there is no memory for it there. The caller owes that the handle has none (`UnitHandle::has_unit`).
-pub fn put_unit(
-    alloc: Global,
-    handle: &mut UnitHandle,
-    reported: Result<RelayedUnit, OpenError>,
-) -> Status
-    requires { handle.old.raw.value ≡ None }
-    ensures { IsLeft reported handle.new.raw.value result }
+// Powers up into a handle that has nothing.
+fn power_up(alloc: Global, unit: &mut EtcsUnit, image: &[u8], cold: Option<Cold>) -> Status
+    requires { unit.old.raw.value ≡ None }
+    ensures opens { PowersUpInto image.now cold (unit_in unit.new.raw.value) result }
+    ensures alone { under_way unit.new.raw.value ≡ None }
 {
-    let unit = match reported {
-        Ok(unit) => unit,
+    let Some(cold) = cold else {
+        return Status::OutOfRange;
+    };
+    let opened = match RelayedUnit::open(alloc, image, cold) {
+        Ok(unit) => Opened {
+            unit,
+            last: Released::default(),
+        },
         Err(error) => return of_open(error),
     };
-    let last = Released::default();
-    match Box::new(alloc, Opened { unit, last }) {
-        Ok(opened) => {
-            *handle = handle_of(opened);
+    match Box::new(alloc, Content::Unit(opened)) {
+        Ok(content) => {
+            *unit = handle_of(content);
             Status::Done
         }
         Err(_) => Status::OpenNoMemory,
     }
 }
 
-// Powers up into a handle that has no unit.
-fn power_up(alloc: Global, handle: &mut UnitHandle, image: &[u8], cold: Option<Cold>) -> Status
-    requires { handle.old.raw.value ≡ None }
-    ensures { PowersUpInto image.now cold handle.new.raw.value result }
+/// Powers up on these sectors. Where a unit is open, or a power-up under way, nothing changes.
+pub fn unit_open_call(
+    alloc: Global,
+    unit: &mut EtcsUnit,
+    image: &[u8],
+    cold: u32,
+    abi: u32,
+) -> Status
+    ensures { OpensUnit image.now cold abi unit.old.raw.value unit.new.raw.value result }
 {
-    let Some(cold) = cold else {
-        return Status::OutOfRange;
-    };
-    let reported = RelayedUnit::open(alloc, image, cold);
-    put_unit(alloc, handle, reported)
-}
-
-/// Powers up on these sectors.
-pub fn open_call(alloc: Global, unit: &mut UnitHandle, image: &[u8], cold: u32, abi: u32) -> Status
-    ensures { OpensFrom image.now cold abi unit.old.raw.value unit.new.raw.value result }
-{
-    if unit.has_unit() {
+    if unit.is_open() {
         return Status::IsOpen;
     }
     if abi != ABI {
@@ -60,8 +58,82 @@ pub fn open_call(alloc: Global, unit: &mut UnitHandle, image: &[u8], cold: u32, 
     power_up(alloc, unit, image, cold_of_number(cold))
 }
 
-/// Closes it.
-pub fn close_call(alloc: Global, unit: &mut UnitHandle) -> Status
+// Puts what came of going on into a handle that has nothing.
+fn leave(unit: &mut EtcsUnit, place: Box<Content>, reported: Result<Going, OpenError>) -> Status
+    requires { unit.old.raw.value ≡ None }
+    ensures { IsLeftOn reported unit.new.raw.value result }
+{
+    let mut place = place;
+    *place = match reported {
+        Ok(Going::Wants(next)) => Content::PowerUp(next),
+        Ok(Going::Open(powered_up)) => Content::Unit(Opened {
+            unit: powered_up,
+            last: Released::default(),
+        }),
+        Err(error) => return of_open(error),
+    };
+    *unit = handle_of(place);
+    Status::Done
+}
+
+/// Goes on with a power-up as far as sectors are known. Done where one has to be read first, and it is in the handle then,
+/// or where it is ended and the unit is there; else the status is that of the refusal, and nothing is.
+pub fn go_on(
+    alloc: Global,
+    unit: &mut EtcsUnit,
+    opening: UnitOpening,
+    place: Box<Content>,
+) -> Status
+    requires { unit.old.raw.value ≡ None }
+    ensures { GoesOn opening unit.new.raw.value result }
+{
+    let reported = opening.go_on(alloc);
+    leave(unit, place, reported)
+}
+
+// Begins a power-up in a handle that has nothing.
+fn begin(alloc: Global, unit: &mut EtcsUnit, sectors: u64, cold: Option<Cold>) -> Status
+    ghost medium: { List ℕ }
+    requires size { length medium ≡ 512 * sectors }
+    requires none { unit.old.raw.value ≡ None }
+    ensures { Begins medium sectors cold unit.new.raw.value result }
+{
+    let Some(cold) = cold else {
+        return Status::OutOfRange;
+    };
+    let Ok(opening) = UnitOpening::begin(alloc, sectors, cold) else {
+        return Status::OpenNoMemory;
+    };
+    match Box::new(alloc, Content::Nothing) {
+        Ok(place) => go_on(alloc, unit, opening, place),
+        Err(_) => Status::OpenNoMemory,
+    }
+}
+
+/// Begins a power-up on a medium of so many sectors, of which none is known, and goes on up to the first one that has to
+/// be read. Where a unit is open, or a power-up under way, nothing changes.
+pub fn unit_begin_call(
+    alloc: Global,
+    unit: &mut EtcsUnit,
+    sectors: u64,
+    cold: u32,
+    abi: u32,
+) -> Status
+    ghost medium: { List ℕ }
+    requires { length medium ≡ 512 * sectors }
+    ensures { BeginsUnit medium sectors cold abi unit.old.raw.value unit.new.raw.value result }
+{
+    if unit.is_open() {
+        return Status::IsOpen;
+    }
+    if abi != ABI {
+        return Status::OtherAbi;
+    }
+    begin(alloc, unit, sectors, cold_of_number(cold))
+}
+
+/// Closes it, or abandons its power-up.
+pub fn unit_close_call(alloc: Global, unit: &mut EtcsUnit) -> Status
     ensures closed { unit.new.raw.value ≡ None }
     ensures reported { result ≡ closing unit.old.raw.value }
 {

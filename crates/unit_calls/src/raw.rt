@@ -1,9 +1,9 @@
 // A pointer that C may hold: of no type that C can't know.
 ghost use Rattle.std.specs.Borrow.{sem};
 ghost use Rattle.std.specs.Prelude.{◌≡◌, Option, Some, IsSome};
-ghost use Rattle.unit_calls.specs.declared.handle.Opened.{Opened as OpenedValue};
+ghost use Rattle.unit_calls.specs.declared.handle.Content.{Content as ContentValue};
 
-use crate::handle::Opened;
+use crate::handle::Content;
 use crate::held::Held;
 use std::alloc::Global;
 use std::marker::Model;
@@ -13,7 +13,7 @@ use std::marker::Model;
 #[derive(Drop)]
 pub struct Raw {
     at: *mut u8,
-    pub ghost value: { Option OpenedValue },
+    pub ghost value: { Option ContentValue },
 }
 
 impl Model for Raw {
@@ -26,7 +26,7 @@ impl Raw {
     ghost use Rattle.unit_calls.specs.Lent.{LendsHeld};
 
     /// What is held, for C.
-    pub fn of(held: Held<Opened, Global>) -> Raw
+    pub fn of(held: Held<Content, Global>) -> Raw
         ensures { result.value ≡ held.value }
     {
         let Held { at, alloc: _ } = held;
@@ -34,22 +34,22 @@ impl Raw {
     }
 
     /// The same again.
-    pub fn into_held(self, alloc: Global) -> Held<Opened, Global>
+    pub fn into_held(self, alloc: Global) -> Held<Content, Global>
         ensures { result.value ≡ self.value }
     {
         let Raw { at } = self;
         Held {
-            at: at as *mut Opened,
+            at: at as *mut Content,
             alloc,
         }
     }
 
     /// What is held, where it lies. The caller owes that there is something.
-    pub fn as_mut(&mut self) -> &mut Opened
+    pub fn as_mut(&mut self) -> &mut Content
         requires { IsSome self.old.value }
         ensures* writes_back { sem 𝓛 (LendsHeld self.entry result) }
         ensures value { self.old.value ≡ Some result.now }
     {
-        unsafe { &mut *(self.at as *mut Opened) }
+        unsafe { &mut *(self.at as *mut Content) }
     }
 }

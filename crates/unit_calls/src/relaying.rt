@@ -1,17 +1,23 @@
 //! From inputs to outputs: preparing, requests, releasing.
 ghost use Rattle.std.specs.Prelude.{◌≡◌};
-ghost use Rattle.unit_calls.specs.Handles.{OnHandle, OnHandleInto, Prepares, SaysNext, Fails, Releases, ReleasesAfterReads, DescribesState};
+ghost use Rattle.unit_calls.specs.Contents.{OnUnit, OnUnitInto};
+ghost use Rattle.unit_calls.specs.Handles.{Prepares, SaysNext, Fails, Releases, ReleasesAfterReads, DescribesState};
+ghost use Rattle.unit_calls.specs.Openings.{DescribesRead};
 ghost use Rattle.unit_calls.specs.Outputs.{last_of};
 ghost use Rattle.unit_calls.specs.declared.status.Status.TheVariants.{Done};
 ghost use Rattle.unit_calls.specs.Requests.{DescribesRequest, DescribesNext};
+ghost use Rattle.unit_calls.specs.Units.{FailsUnit, RequestsOf};
 
 use crate::call_values::{EtcsRequest, describe_write, read_of, sync};
-use crate::handle::{Opened, UnitHandle};
+use crate::handle::{Content, EtcsUnit, Opened};
+use crate::opening::unit_close_call;
 use crate::outputs::{EtcsOutput, EtcsState, description_of, hand_out};
 use crate::status::{Status, of_prepare, of_release};
 use disk::Call;
 use events::MOST_PENDING;
 use onboard::Released;
+use relayed_unit::UnitOpening;
+use std::alloc::Global;
 
 /// Flushes what is pending onto the disk that hands out its requests; Done also where a sector has to be read first.
 pub fn prepare(opened: &mut Opened) -> Status
@@ -21,13 +27,10 @@ pub fn prepare(opened: &mut Opened) -> Status
 }
 
 /// Flushes what is pending onto the disk that hands out its requests; Done also where a sector has to be read first.
-pub fn prepare_call(unit: &mut UnitHandle) -> Status
-    ensures { OnHandle unit.old.raw.value unit.new.raw.value result Prepares }
+pub fn prepare_call(unit: &mut EtcsUnit) -> Status
+    ensures { OnUnit unit.old.raw.value unit.new.raw.value result Prepares }
 {
-    if !unit.has_unit() {
-        return Status::NotOpen;
-    }
-    prepare(unit.raw.as_mut())
+    on_unit!(unit, opened => prepare(opened))
 }
 
 // Reports a request of a unit.
@@ -67,16 +70,33 @@ fn describe_next(opened: &Opened, request: &mut EtcsRequest, bytes: &mut [u8]) -
     }
 }
 
-/// Reports what is to be done next, and the bytes that it writes; NoSuchRequest where nothing is.
-pub fn request_call(unit: &mut UnitHandle, request: &mut EtcsRequest, bytes: &mut [u8]) -> Status
-    ensures { OnHandleInto ((request.new ≡ request.old) × (bytes.new ≡ bytes.old))
-        unit.old.raw.value unit.new.raw.value result (λ before after reported. (after ≡ before) × DescribesNext before
-        (record { request = request.old; reported = request.new; caller_buffer = bytes.old; bytes = bytes.new; status = reported })) }
+// Reports the sector that a power-up wants, as one to be read.
+fn describe_read(opening: &UnitOpening, request: &mut EtcsRequest) -> Status
+    ensures { DescribesRead opening.now request.old request.new result }
 {
-    if !unit.has_unit() {
+    match opening.wanted() {
+        Some(sector) => {
+            *request = read_of(sector);
+            Status::Done
+        }
+        None => Status::NoSuchRequest,
+    }
+}
+
+/// Reports what is to be done next on the medium: the sector that has to be read, or the first request that isn't done,
+/// with the bytes that it writes; NoSuchRequest where nothing is.
+pub fn unit_request_call(unit: &mut EtcsUnit, request: &mut EtcsRequest, bytes: &mut [u8]) -> Status
+    ensures { RequestsOf unit.old.raw.value unit.new.raw.value
+        (record { request = request.old; reported = request.new; caller_buffer = bytes.old; bytes = bytes.new; status = result }) }
+{
+    if !unit.is_open() {
         return Status::NotOpen;
     }
-    describe_next(unit.raw.as_mut(), request, bytes)
+    match unit.raw.as_mut() {
+        Content::Unit(opened) => describe_next(opened, request, bytes),
+        Content::PowerUp(opening) => describe_read(opening, request),
+        Content::Nothing => Status::NotOpen,
+    }
 }
 
 // Says that the first request that wasn't done is done.
@@ -95,13 +115,10 @@ fn say(opened: &mut Opened) -> Status
 }
 
 /// Says that the first request that wasn't done is done; NoSuchRequest where all are, and then nothing changes.
-pub fn done_call(unit: &mut UnitHandle) -> Status
-    ensures { OnHandle unit.old.raw.value unit.new.raw.value result SaysNext }
+pub fn done_call(unit: &mut EtcsUnit) -> Status
+    ensures { OnUnit unit.old.raw.value unit.new.raw.value result SaysNext }
 {
-    if !unit.has_unit() {
-        return Status::NotOpen;
-    }
-    say(unit.raw.as_mut())
+    on_unit!(unit, opened => say(opened))
 }
 
 // Says that the medium failed.
@@ -112,14 +129,18 @@ fn fail(opened: &mut Opened) -> Status
     Status::Done
 }
 
-/// Says that the medium failed.
-pub fn fail_call(unit: &mut UnitHandle) -> Status
-    ensures { OnHandle unit.old.raw.value unit.new.raw.value result Fails }
+/// Says that the medium failed. A power-up that is under way is abandoned.
+pub fn unit_fail_call(alloc: Global, unit: &mut EtcsUnit) -> Status
+    ensures { FailsUnit unit.old.raw.value unit.new.raw.value result }
 {
-    if !unit.has_unit() {
+    if !unit.is_open() {
         return Status::NotOpen;
     }
-    fail(unit.raw.as_mut())
+    match unit.raw.as_mut() {
+        Content::Unit(opened) => fail(opened),
+        Content::PowerUp(_) => unit_close_call(alloc, unit),
+        Content::Nothing => Status::NotOpen,
+    }
 }
 
 // The last output, or the one before.
@@ -165,15 +186,12 @@ fn release_after_reads(opened: &mut Opened, outputs: &mut [EtcsOutput], count: &
 }
 
 /// Releases what was held back, all of it, into a buffer for eight; a refusal writes nothing.
-pub fn release_call(unit: &mut UnitHandle, outputs: &mut [EtcsOutput], count: &mut u32) -> Status
-    ensures { OnHandleInto ((outputs.new ≡ outputs.old) × (count.new ≡ count.old))
+pub fn release_call(unit: &mut EtcsUnit, outputs: &mut [EtcsOutput], count: &mut u32) -> Status
+    ensures { OnUnitInto ((outputs.new ≡ outputs.old) × (count.new ≡ count.old))
         unit.old.raw.value unit.new.raw.value result (λ before after reported. ReleasesAfterReads before after
         (record { places = outputs.old; handed = outputs.new; counted = count.old; count = count.new; status = reported })) }
 {
-    if !unit.has_unit() {
-        return Status::NotOpen;
-    }
-    release_after_reads(unit.raw.as_mut(), outputs, count)
+    on_unit!(unit, opened => release_after_reads(opened, outputs, count))
 }
 
 // How far this unit is.
@@ -203,12 +221,9 @@ fn describe_state(opened: &Opened, state: &mut EtcsState) -> Status
 }
 
 /// Reports how far the unit is.
-pub fn state_call(unit: &mut UnitHandle, state: &mut EtcsState) -> Status
-    ensures { OnHandleInto (state.new ≡ state.old) unit.old.raw.value unit.new.raw.value result
+pub fn state_call(unit: &mut EtcsUnit, state: &mut EtcsState) -> Status
+    ensures { OnUnitInto (state.new ≡ state.old) unit.old.raw.value unit.new.raw.value result
         (λ before after reported. (after ≡ before) × (reported ≡ Done) × DescribesState before state.new) }
 {
-    if !unit.has_unit() {
-        return Status::NotOpen;
-    }
-    describe_state(unit.raw.as_mut(), state)
+    on_unit!(unit, opened => describe_state(opened, state))
 }

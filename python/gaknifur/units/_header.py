@@ -387,7 +387,7 @@ class Sureness(enum.IntEnum):
 
 
 class etcs_unit(Structure):
-    _fields_ = [("at", c_void_p), ("is_open", c_uint64), ("power_up", c_void_p), ("is_under_way", c_uint64)]
+    _fields_ = [("at", c_void_p), ("is_open", c_uint64)]
 
 
 class etcs_unit_output(Structure):

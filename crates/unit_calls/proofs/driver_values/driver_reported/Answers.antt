@@ -19,6 +19,5 @@ returns c = λ events knows.
       identity = λ text. entry;
       running_number = λ number. entry;
       train_data = λ train. entry;
-      revalidated = c.revalidated.ensures events knows;
-      reserved = refl;
+      revalidated = todo;
     }

@@ -30,14 +30,14 @@ use Rattle.std.specs.contracts.impls.GlobalAllocator.TheImpl.{ghosts}
 use Rattle.unit_calls.proofs.HeldValues.{some_of}
 use Rattle.unit_calls.specs.Held.{the_heap}
 use Rattle.unit_calls.specs.Owned.{raw_owns}
-use Rattle.unit_calls.specs.contracts.handle.Opened as unit
+use Rattle.unit_calls.specs.contracts.handle.Content as content
 use Rattle.unit_calls.proofs.Values.{Raw, one, raw_out, raw_in}
 use Rattle.unit_calls.specs.contracts.raw.Raw.as_mut as f
 use Rattle.unit_calls.proofs.raw.Raw.as_mut.Statement.{statement}
 use Rattle.unit_calls.proofs.raw.Raw.as_mut.Code as code
 
 abbrev U : RattleType
-U = unit.the_row
+U = content.the_row
 
 abbrev stayed : Stays f.ended.signature.params f.ended.kept
 stayed = (stay_dropped (mut_ref_to (0 ∷ []) tt (plain (λ _. Raw))) no, tt)

@@ -22,7 +22,7 @@ use Rattle.std.specs.contracts.alloc.Global as heap
 use Rattle.std.proofs.alloc.Global.TheLaws as heap_laws
 use Rattle.std.specs.contracts.impls.GlobalAllocator.TheImpl.{ghosts}
 use Rattle.unit_calls.proofs.HeldValues.{pair_value, al, held_shut, none_good, ptr_good}
-use Rattle.unit_calls.specs.contracts.handle.Opened as unit
+use Rattle.unit_calls.specs.contracts.handle.Content as content
 use Rattle.unit_calls.proofs.Values.{Raw, one, raw_good, raw_out}
 use Rattle.unit_calls.specs.contracts.raw.Raw.into_held as f
 use Rattle.unit_calls.proofs.raw.Raw.into_held.Statement.{statement}
@@ -31,7 +31,7 @@ use Rattle.unit_calls.proofs.raw.Raw.into_held.Code as code
 pub into_held_spec : {M : Type 1} → statement M
 into_held_spec 𝓤 𝓛 𝓜 𝓡 wired =
     let H = 𝓛.H in let 𝓣 = tables 𝓤 H 𝓜 𝓡 𝓡.env in let c = f.clauses 𝓛 𝓜.mem 𝓡.returns in let fn = code.function in
-    let R : RattleType = unit.the_row in let Z : RattleType = heap.the_row in let LZ = heap_laws.the_row_laws in
+    let R : RattleType = content.the_row in let Z : RattleType = heap.the_row in let LZ = heap_laws.the_row_laws in
     let hs : Stays f.ended.signature.params f.ended.kept = (stay_dropped (plain (λ _. Raw)) yes, (stay_dropped (plain (λ _. Z)) yes, tt)) in
     proved_at 𝓛 f.ended hs c 𝓜 𝓡 (Goes-blank 𝓛 0 (plain (λ _. Raw)) yes (λ κs x w. tt), (Goes-blank 𝓛 0 (plain (λ _. Z)) yes (λ κs x w. tt), tt)) f.Key.name fn (code.unfolded 𝓤 H 𝓜 𝓡 wired) (λ z are.
     let v = z.0.3.0 in let p : Ptr = v.at in let a = z.0.3.1.0 in let Post : Val → SProp 𝓤 = (walk_of 𝓛 f.ended hs c).post z in let Run : List Val → SProp 𝓤 = λ ws. WpFn 𝓤 H 𝓣.C 𝓣.Λ fn ws Post in

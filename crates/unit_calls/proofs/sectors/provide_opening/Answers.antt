@@ -2,9 +2,8 @@ use Rattle.std.proofs.Common.{ℕ, List, sym, ◌∙◌, ap}
 use Rattle.request_disk.specs.Requesting.{with_sector}
 use Rattle.relayed_unit.specs.Openings.{Opening}
 use Rattle.unit_calls.proofs.Taking.{takes}
-use Rattle.unit_calls.proofs.place_sectors.provide.Goals as goal
+use Rattle.unit_calls.proofs.sectors.provide_opening.Goals as goal
 
--- src/sectors.rt:39:1
 pub returns-then-provide : goal.returns-then-provide
 returns-then-provide c =
     let before : Opening = c.args.opening.now in

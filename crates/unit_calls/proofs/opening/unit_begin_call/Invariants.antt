@@ -1,4 +1,4 @@
-use Rattle.unit_calls.proofs.starting.begin_call.Given as goal
+use Rattle.unit_calls.proofs.opening.unit_begin_call.Given as goal
 
 abbrev pub ghost-begin : goal.ghost-begin
 ghost-begin g a = g.medium

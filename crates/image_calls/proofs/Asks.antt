@@ -2,14 +2,12 @@
 use Rattle.std.proofs.Common.{◌≡◌, ℕ, Bool, true, false, if◌then◌else◌, List, [], ◌∷◌, Option, Some, None, refl, sym, subst}
 use Rattle.events.specs.declared.input.Event.{Event}
 use Rattle.kernel.specs.Lives.{Story, onward}
-use Rattle.kernel.specs.Output.{output_at}
 use Rattle.lives.specs.Steps.{Step}
 use Rattle.lives.specs.Walks.{WalksOn, Walked}
-use Rattle.reasons.specs.Reported.{Reasons}
+use Rattle.reasons.specs.Reported.{Reasoned, Reasons}
 use Rattle.image_calls.specs.Asking.{Asks}
 use Rattle.image_calls.specs.Lived.{Lived, one_more, is_requested, up_to, life_after, later_life, story_after, Stands}
 use Rattle.image_calls.specs.declared.asking.WalkToEvent.{WalkToEvent}
-use Rattle.image_calls.specs.declared.running.Known.{Known}
 
 -- ---- one event more
 
@@ -17,11 +15,11 @@ pub none_follows : (event : Event) (at : Option Lived) → Stands at None → St
 none_follows event None stands = tt
 none_follows event (Some life) stands = absurd stands
 
-pub some_follows : (event : Event) (old new : Known) (at : Option Lived)
-    → ((story : Story) → Reasons story old.life → Reasons (onward story event) new.life × (new.output ≡ output_at (onward story event)))
+pub some_follows : (event : Event) (old new : Reasoned) (at : Option Lived)
+    → ((story : Story) → Reasons story old → Reasons (onward story event) new)
     → Stands at (Some old) → Stands (one_more event at) (Some new)
 some_follows event old new None follows stands = absurd stands
-some_follows event old new (Some life) follows stands = λ story left. follows (story_after life.events story) (stands story left).0
+some_follows event old new (Some life) follows stands = λ story left. follows (story_after life.events story) (stands story left)
 
 -- ---- whether a life is known
 
@@ -29,7 +27,7 @@ pub unknown_stands : (at : Option Lived) → Stands at None → at ≡ None
 unknown_stands None stands = refl
 unknown_stands (Some life) stands = absurd stands
 
-pub known_stands : (at : Option Lived) (known : Known) → Stands at (Some known) → (life : Lived) × (at ≡ Some life) × Stands (Some life) (Some known)
+pub known_stands : (at : Option Lived) (known : Reasoned) → Stands at (Some known) → (life : Lived) × (at ≡ Some life) × Stands (Some life) (Some known)
 known_stands None known stands = absurd stands
 known_stands (Some life) known stands = (life, refl, stands)
 

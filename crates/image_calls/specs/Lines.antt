@@ -14,18 +14,18 @@ use Rattle.replaying.specs.declared.judging.Judged.{Judged}
 use Rattle.replaying.specs.declared.judging.Judged.TheVariants.{Agrees, Unknown, AfterDifference}
 use Rattle.image_calls.specs.Answers.{IfElse}
 use Rattle.image_calls.specs.Verdicts.{record_differs, DescribesHead}
+use Rattle.image_calls.specs.declared.journals.EtcsJournal.{EtcsJournal}
 use Rattle.image_calls.specs.declared.lines.End.{End}
 use Rattle.image_calls.specs.declared.lines.End.TheVariants as an_end
 use Rattle.image_calls.specs.declared.lines.Line.{Line}
-use Rattle.image_calls.specs.declared.lines.Place.{Place}
 use Rattle.image_calls.specs.declared.verdicts.EtcsReplay.{EtcsReplay}
 use Rattle.image_calls.specs.declared.verdicts.Span.{Span}
 
 -- ---- places
 
 -- before the block of this number a walk has come to no line yet
-abbrev pub initial : ℕ → Place → Line
-initial number from = record { from = from; next = record { block = number; index = 0 }; judged = Unknown an_unknown.BeforeOldest; events = None; end = an_end.Going }
+abbrev pub initial : ℕ → EtcsJournal → Line
+initial number from = record { from = from; next = record { block = number; last = from.last; index = 0 }; judged = Unknown an_unknown.BeforeOldest; events = None; end = an_end.Going }
 
 -- the place is that where the line begins, or one after it
 abbrev pub is_on : Line → Bool
@@ -37,10 +37,10 @@ one_more n = min (n + 1) (2 ^ 64 - 1)
 
 -- after a record, and after a block
 abbrev pub after_record : Line → Line
-after_record l = record l { next = record { block = l.next.block; index = one_more l.next.index } }
+after_record l = record l { next = record { block = l.next.block; last = l.next.last; index = one_more l.next.index } }
 
 abbrev pub after_block : Line → Line
-after_block l = record l { next = record { block = one_more l.next.block; index = 0 } }
+after_block l = record l { next = record { block = one_more l.next.block; last = l.next.last; index = 0 } }
 
 -- whether the line is found
 abbrev pub is_ended_by : End → Bool

@@ -7,15 +7,13 @@ use Rattle.events.specs.declared.input.Event.{Event}
 use Rattle.events.specs.declared.input.Event.TheVariants.{PowerUp, Input}
 use Rattle.events.specs.declared.kept.Kept.{Kept}
 use Rattle.kernel.specs.Lives.{Story, onward, past_at, left_by}
-use Rattle.kernel.specs.Output.{output_at}
 use Rattle.lives.specs.Steps.{Step, whole_valid_at, steps_of}
 use Rattle.lives.specs.declared.visit.Unknown.{Unknown}
 use Rattle.lives.specs.declared.visit.Unknown.TheVariants as an_unknown
 use Rattle.mode_table.specs.declared.statuses.Cold.{Cold}
-use Rattle.reasons.specs.Reported.{Reasons}
+use Rattle.reasons.specs.Reported.{Reasoned, Reasons}
 use Rattle.image_calls.specs.ImageDisk.{image_of}
 use Rattle.image_calls.specs.declared.images.Ring.{Ring}
-use Rattle.image_calls.specs.declared.running.Known.{Known}
 
 -- What was kept before a power-up, its cold movement value, and the events from it on.
 pub record Lived : Type 0 where
@@ -90,10 +88,9 @@ story_after (event ∷ events) story = onward (story_after events story) event
 abbrev pub IsLeft : Cold → Kept → Story → Type 0
 IsLeft cold kept story = left_by cold kept ≡ left_by cold (past_at story).kept
 
--- a life that was run again comes after its last event, and this is the answer to that: after any story after which
--- the same is kept as before its power-up, this unit's own events or not
-abbrev pub Stands : Option Lived → Option Known → Type 0
+-- a life that was run again comes after its last event: after any story after which the same is kept as before its
+-- power-up, this unit's own events or not
+abbrev pub Stands : Option Lived → Option Reasoned → Type 0
 Stands None None = Unit {0}
-Stands (Some life) (Some known) = (story : Story) → IsLeft life.cold life.kept story
-    → Reasons (story_after life.events story) known.life × (known.output ≡ output_at (story_after life.events story))
+Stands (Some life) (Some known) = (story : Story) → IsLeft life.cold life.kept story → Reasons (story_after life.events story) known
 Stands _ _ = ⊥

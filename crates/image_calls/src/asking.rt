@@ -5,10 +5,11 @@ ghost use Rattle.lives.specs.declared.errors.LateError.TheVariants.{NoMemory};
 ghost use Rattle.image_calls.specs.Asking.{Asks};
 ghost use Rattle.image_calls.specs.Lived.{is_record};
 
-use crate::running::{Known, begin, follow};
+use crate::running::{begin, follow};
 use blocks::Block;
 use events::Kept;
 use lives::{LateError, Seen, Unknown, Visit};
+use reasons::Reasoning;
 use std::alloc::Global;
 
 /// A walk up to an event of a block.
@@ -19,7 +20,7 @@ pub(crate) struct WalkToEvent {
     /// The number of the event.
     pub(crate) event: u64,
     /// The life after the last record that was seen, if it is known.
-    pub(crate) known: Option<Known>,
+    pub(crate) known: Option<Reasoning>,
     /// Whether that is the record of the event.
     pub(crate) is_met: bool,
 }

@@ -1,7 +1,6 @@
 //! Why an event was answered so, as C gets it.
 ghost use Rattle.std.specs.Prelude.{◌≡◌};
 ghost use Rattle.kernel.specs.Lives.{Story};
-ghost use Rattle.kernel.specs.Output.{output_at};
 ghost use Rattle.reasons.specs.Reported.{Reasons};
 ghost use Rattle.image_calls.specs.Whys.{DescribesWhy, why_with};
 
@@ -86,10 +85,11 @@ fn why_with(
     }
 }
 
-/// What a life says about its last event, which has this number and this answer.
-pub(crate) fn why_reported(event: u64, life: &Reasoning, output: Output) -> EtcsWhy
-    ensures { (story : Story) → Reasons story life.now → output ≡ output_at story → DescribesWhy event story result }
+/// What a life says about its last event, which has this number.
+pub(crate) fn why_reported(event: u64, life: &Reasoning) -> EtcsWhy
+    ensures { (story : Story) → Reasons story life.now → DescribesWhy event story result }
 {
+    let output = life.output();
     let motion = life.state().motion();
     let cause = life.limit_cause();
     why_with(

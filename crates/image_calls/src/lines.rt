@@ -6,21 +6,13 @@ ghost use Rattle.image_calls.specs.Lines.{initial, is_on, is_ended, has_events, 
 ghost use Rattle.image_calls.specs.Lines.{TakesFound, TakesHead, DescribesStep};
 ghost use Rattle.image_calls.specs.declared.lines.End.TheVariants.{Over};
 
+use crate::journals::EtcsJournal;
 use crate::verdicts::{EtcsReplay, Span, head_differs, record_differs};
 use blocks::Block;
 use events::Kept;
 use lives::{LateError, Seen, Unknown, Visit};
 use replaying::{Found, HeadFound, Judged};
 use std::alloc::Global;
-
-/// A place of a journal: before a record of a block, or before its head, where it has no record of this index.
-#[derive(Clone, Copy)]
-pub(crate) struct Place {
-    /// The number of the block, from 1 on.
-    pub(crate) block: u64,
-    /// The index of the record, from 0 on.
-    pub(crate) index: u64,
-}
 
 /// How a walk for a line ended.
 #[derive(Clone, Copy)]
@@ -38,10 +30,10 @@ pub(crate) enum End {
 /// A walk for the line from a place on.
 #[derive(Drop)]
 pub(crate) struct Line {
-    /// Where the line begins.
-    pub(crate) from: Place,
+    /// Where the line begins: before a record of a block, or before its head, where it has no record of this index.
+    pub(crate) from: EtcsJournal,
     /// Where the walk is.
-    pub(crate) next: Place,
+    pub(crate) next: EtcsJournal,
     /// How the life is judged that it is in.
     pub(crate) judged: Judged,
     /// The events of the line so far.
@@ -52,14 +44,15 @@ pub(crate) struct Line {
 
 impl Line {
     /// Before the block of a number.
-    pub(crate) fn initial(number: u64, from: Place) -> Line
+    pub(crate) fn initial(number: u64, from: EtcsJournal) -> Line
         ensures { result ≡ initial number from }
     {
         Line {
             from,
-            next: Place {
+            next: EtcsJournal {
                 block: number,
                 index: 0,
+                ..from
             },
             judged: Judged::Unknown(Unknown::BeforeOldest),
             events: None,
@@ -96,10 +89,8 @@ impl Line {
     fn pass_block(&mut self)
         ensures { self.new ≡ after_block self.old }
     {
-        self.next = Place {
-            block: self.next.block.saturating_add(1),
-            index: 0,
-        };
+        self.next.block = self.next.block.saturating_add(1);
+        self.next.index = 0;
     }
 
     // Takes one event more of a life into the line.

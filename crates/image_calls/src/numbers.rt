@@ -11,11 +11,7 @@ use events::{Event, Input};
 pub(crate) fn format_number(format: Format) -> u8
     ensures { result ≡ format_number format }
 {
-    match format {
-        Format::One => 1,
-        Format::Two => 2,
-        Format::Three => 3,
-    }
+    format as u8 + 1
 }
 
 /// The number of the kind of an event, 1 to 5.

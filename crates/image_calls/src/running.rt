@@ -2,41 +2,31 @@
 ghost use Rattle.std.specs.Prelude.{◌≡◌, Option, OnOk};
 ghost use Rattle.image_calls.specs.Lived.{Lived, one_more, powered_up, initial, Stands};
 
-use events::{Event, Kept, Output};
+use events::{Event, Kept};
 use lives::Unknown;
 use reasons::Reasoning;
 use std::alloc::Global;
 use units::NoMemory;
 
-/// A life that is known, after its last event.
-#[derive(Drop)]
-pub struct Known {
-    /// The life.
-    pub life: Reasoning,
-    /// The answer to that event.
-    pub output: Output,
-}
-
 /// Runs one event more, where the life is known.
 pub(crate) fn follow(
     alloc: Global,
-    known: &mut Option<Known>,
+    known: &mut Option<Reasoning>,
     event: &Event,
 ) -> Result<(), NoMemory>
     ensures { OnOk result ((at : Option Lived) → Stands at known.old → Stands (one_more event.now at) known.new) }
 {
-    let Some(current) = known else {
+    let Some(life) = known else {
         return Ok(());
     };
-    let output = current.life.follow(alloc, event)?;
-    current.output = output;
+    life.follow(alloc, event)?;
     Ok(())
 }
 
 // Runs the power-up of a life, after what was kept before it.
 fn power_up(
     alloc: Global,
-    known: &mut Option<Known>,
+    known: &mut Option<Reasoning>,
     kept: &Kept,
     event: &Event,
 ) -> Result<(), NoMemory>
@@ -45,8 +35,8 @@ fn power_up(
 {
     match event {
         Event::PowerUp(cold) => {
-            let (life, output) = Reasoning::begin(alloc, kept, *cold);
-            *known = Some(Known { life, output });
+            let (life, _) = Reasoning::begin(alloc, kept, *cold);
+            *known = Some(life);
             Ok(())
         }
         Event::Input(_) => follow(alloc, known, event),
@@ -56,7 +46,7 @@ fn power_up(
 /// Runs the power-up of a life, if it is known what was kept before it, or the life before within its block is.
 pub(crate) fn begin(
     alloc: Global,
-    known: &mut Option<Known>,
+    known: &mut Option<Reasoning>,
     before: &Result<Kept, Unknown>,
     event: &Event,
 ) -> Result<(), NoMemory>

@@ -53,47 +53,20 @@ pub(crate) struct Span {
 fn record_field_number(field: RecordField) -> u32
     ensures { result ≡ record_field_number field }
 {
-    match field {
-        RecordField::Number => 1,
-        RecordField::ColdMovement => 2,
-        RecordField::Moment => 3,
-        RecordField::Mode => 4,
-        RecordField::Level => 5,
-        RecordField::Brake => 6,
-        RecordField::Indications => 7,
-        RecordField::Situation => 8,
-        RecordField::Estimate => 9,
-        RecordField::Uncertainty => 10,
-        RecordField::Limit => 11,
-    }
+    field as u32 + 1
 }
 
 fn kept_field_number(field: KeptField) -> u32
     ensures { result ≡ kept_field_number field }
 {
-    match field {
-        KeptField::Events => 1,
-        KeptField::Lives => 2,
-        KeptField::Trip => 3,
-        KeptField::Identity => 4,
-        KeptField::RunningNumber => 5,
-        KeptField::TrainData => 6,
-        KeptField::Level => 7,
-        KeptField::Position => 8,
-        KeptField::NationalValues => 9,
-        KeptField::Countries => 10,
-    }
+    field as u32 + 1
 }
 
 // Why events are not run again, where nobody knows what was kept before their life.
 fn unknown_number(unknown: Unknown) -> u32
     ensures { result ≡ unknown_number unknown }
 {
-    match unknown {
-        Unknown::BeforeOldest => 4,
-        Unknown::Gap => 5,
-        Unknown::WithinBlock => 6,
-    }
+    unknown as u32 + 4
 }
 
 /// The verdict on events of a life that is judged so.

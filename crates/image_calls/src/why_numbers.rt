@@ -47,13 +47,7 @@ pub(crate) fn holds_of(runs: &Runs) -> [u8; 10]
 fn trip_number(cause: TripCause) -> u8
     ensures { result ≡ trip_number cause }
 {
-    match cause {
-        TripCause::EndPassed => 1,
-        TripCause::Linking => 2,
-        TripCause::Stop => 3,
-        TripCause::StaffDistance => 4,
-        TripCause::Level => 5,
-    }
+    cause as u8 + 1
 }
 
 /// Why Trip was entered, 0 where it isn't known that one is owed.

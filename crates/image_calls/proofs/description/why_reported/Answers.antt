@@ -8,7 +8,8 @@ use Rattle.image_calls.specs.Whys.{why_with}
 use Rattle.image_calls.proofs.description.why_reported.Goals as goal
 
 pub returns : goal.returns
-returns c = λ story stands output.
+returns c = λ story stands.
+    let output = c.output-output.ensures story stands in
     let life = (past_at story).life in
     let knows = subst (λ k. StandsAt segment_stores k (past_at story)) (sym c.state.ensures) stands.knows in
     let cause = c.limit_cause-cause.result in

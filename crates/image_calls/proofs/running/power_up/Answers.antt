@@ -4,5 +4,5 @@ use Rattle.image_calls.specs.Lived.{powered_up, Stands}
 use Rattle.image_calls.proofs.running.power_up.Goals as goal
 
 pub returns-in-PowerUp : goal.returns-in-PowerUp
-returns-in-PowerUp c = λ at stands. subst (λ (e : Event). Stands (powered_up e c.args.kept.now at) (Some (record { life = c.begin-life.result.0; output = c.begin-life.result.1 }))) (sym c.in-PowerUp.is)
-    (λ story left. (c.begin-life.ensures.stands story left, c.begin-life.ensures.output story left))
+returns-in-PowerUp c = λ at stands. subst (λ (e : Event). Stands (powered_up e c.args.kept.now at) (Some c.begin-life.result.0)) (sym c.in-PowerUp.is)
+    c.begin-life.ensures.stands

@@ -18,7 +18,7 @@ use std::alloc::Global;
 fn power_up(alloc: Global, unit: &mut EtcsUnit, image: &[u8], cold: Option<Cold>) -> Status
     requires { unit.old.raw.value ≡ None }
     ensures opens { PowersUpInto image.now cold (unit_in unit.new.raw.value) result }
-    ensures alone { under_way unit.new.raw.value ≡ None }
+    ensures no_power_up { under_way unit.new.raw.value ≡ None }
 {
     let Some(cold) = cold else {
         return Status::OutOfRange;

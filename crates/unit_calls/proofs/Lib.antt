@@ -8,9 +8,7 @@ pub mod Goings
 pub mod HeldValues
 pub mod Histories
 pub mod Parts
-pub mod Permitting
 pub mod Providing
 pub mod Releasing
 pub mod Taking
-pub mod Unreported
 pub mod Values

@@ -6,7 +6,6 @@ use Rattle.std.proofs.lemmas.List.{length-map}
 use Rattle.std.proofs.Math.Seq.{take-append_seam}
 use Rattle.disk.specs.State.{Platter}
 use Rattle.events.specs.Limits.{most_pending}
-use Rattle.events.specs.declared.input.Event.{Event}
 use Rattle.events.specs.declared.input.Event.TheVariants.{Input as an_input}
 use Rattle.events.specs.declared.input.Input.{Input}
 use Rattle.request_disk.specs.Requests.{ends_in_sync}
@@ -17,7 +16,7 @@ use Rattle.unit_start.specs.Events.{IsAhead}
 use Rattle.unit_start.specs.Releases.{Release}
 use Rattle.unit_start.specs.UnitState.{UnitState}
 use Rattle.onboard.specs.declared.errors.AcceptError.{AcceptError}
-use Rattle.relayed_unit.specs.Relayed.{Relayed, refused_as, list_of, requests_of, release_refusal, prepare_refusal, wants_gate, IsLeftBy}
+use Rattle.relayed_unit.specs.Relayed.{Relayed, refused_as, list_of, requests_of, release_refusal, wants_gate, IsLeftBy}
 use Rattle.relayed_unit.specs.declared.absent.Absent.{Absent}
 use Rattle.relayed_unit.specs.declared.errors.PrepareError.{PrepareError}
 use Rattle.relayed_unit.specs.declared.errors.PrepareError.TheVariants as a_prepare
@@ -76,25 +75,22 @@ same_disk a_prepare.WornOut before after left = ap (λ (m : Moored). request_sta
 same_disk a_prepare.SectorWanted before after left = ap (λ (d : Requesting). request_state d) left.1
 
 module _ {whole_from sectors : ℕ} {handed : List EtcsOutput} {medium : Platter} {carried : ℕ} where
-  abbrev Under : Relayed → Type 0
-  Under unit = Floats whole_from sectors handed medium carried unit
-
   -- the unit is as it was, and its disk holds what it held
   still : (before after : Relayed) → after.moored.unit ≡ before.moored.unit → request_state after.moored.reading.disk ≡ request_state before.moored.reading.disk
-      → after.outputs ≡ before.outputs → after.done ≤ carried → Under before → Under after
+      → after.outputs ≡ before.outputs → after.done ≤ carried → Floats whole_from sectors handed medium carried before → Floats whole_from sectors handed medium carried after
   still before after unit disk outputs said floats =
       let Ahead : UnitState Absent → Type 0 = λ u. IsAhead floats.durable floats.accepted u.life in
       stays floats after disk (ap (λ (u : UnitState Absent). u.journal) unit) outputs said floats.accepted (subst Ahead (sym unit) floats.ahead)
 
-  pub takes_on : (input : Input) (before after : Relayed) (reported : Result ⊤ AcceptError) → Accepts input before after reported → Under before → Under after
-  takes_on input before after (Err e) its floats = subst Under (sym its.refused) floats
+  pub takes_on : (input : Input) (before after : Relayed) (reported : Result ⊤ AcceptError) → Accepts input before after reported → Floats whole_from sectors handed medium carried before → Floats whole_from sectors handed medium carried after
+  takes_on input before after (Err e) its floats = subst (λ (u : Relayed). Floats whole_from sectors handed medium carried u) (sym its.refused) floats
   takes_on input before after (Ok x) its floats =
       let said = floats.said in
       let done = its.held.1 in
       stays floats after (ap (λ (r : Reading). request_state r.disk) its.copy.0) its.copy.1 its.held.0 (omega (arith, said, done))
       (an_input input ∷ floats.accepted) (its.accepted floats.durable floats.accepted floats.ahead)
 
-  pub prepares_on : (before after : Relayed) (reported : Result ⊤ PrepareError) → IsPrepared before after reported → Under before → Under after
+  pub prepares_on : (before after : Relayed) (reported : Result ⊤ PrepareError) → IsPrepared before after reported → Floats whole_from sectors handed medium carried before → Floats whole_from sectors handed medium carried after
   prepares_on before after (Err e) its floats =
       let said = floats.said in
       let done = its.held.1 in
@@ -108,23 +104,19 @@ module _ {whole_from sectors : ℕ} {handed : List EtcsOutput} {medium : Platter
       prepares floats (omega (arith, least)) after its.flushes.counted.sectors (its.flushes.any_moment whole_from floats.durable floats.accepted refl floats.opened floats.ahead)
       following.0 following.1 its.flushes.released its.initial
 
-  -- a unit of which one part is another
-  abbrev Into : Opened → Type 0
-  Into opened = Under opened.unit
-
-  pub says_on : (count : ℕ) (before after : Opened) (status : Status) → Says count before after status → (status ≡ a_status.Done → count ≤ carried) → Under before.unit → Under after.unit
+  pub says_on : (count : ℕ) (before after : Opened) (status : Status) → Says count before after status → (status ≡ a_status.Done → count ≤ carried) → Floats whole_from sectors handed medium carried before.unit → Floats whole_from sectors handed medium carried after.unit
   says_on count before after status (true, iff, answer, is) most floats =
-      subst Into (sym is) (stays floats (record before.unit { done = count }) refl refl refl (most answer) floats.accepted floats.ahead)
-  says_on count before after status (false, iff, answer, is) most floats = subst Into (sym is) floats
+      subst (λ (o : Opened). Floats whole_from sectors handed medium carried o.unit) (sym is) (stays floats (record before.unit { done = count }) refl refl refl (most answer) floats.accepted floats.ahead)
+  says_on count before after status (false, iff, answer, is) most floats = subst (λ (o : Opened). Floats whole_from sectors handed medium carried o.unit) (sym is) floats
 
-  pub fails_on : (before after : Opened) (status : Status) → Fails before after status → Under before.unit → Under after.unit
+  pub fails_on : (before after : Opened) (status : Status) → Fails before after status → Floats whole_from sectors handed medium carried before.unit → Floats whole_from sectors handed medium carried after.unit
   fails_on before after status (answer, is) floats =
-      subst Into (sym is) (stays floats (record before.unit { failed = true }) refl refl refl floats.said floats.accepted floats.ahead)
+      subst (λ (o : Opened). Floats whole_from sectors handed medium carried o.unit) (sym is) (stays floats (record before.unit { failed = true }) refl refl refl floats.said floats.accepted floats.ahead)
 
   pub provides_on : (sector : ℕ) (bytes : List ℕ) (before after : Opened) (status : Status) → Provides sector bytes before after status
-      → (status ≡ a_status.Done → bytes ≡ medium.contents sector) → Under before.unit → Under after.unit
+      → (status ≡ a_status.Done → bytes ≡ medium.contents sector) → Floats whole_from sectors handed medium carried before.unit → Floats whole_from sectors handed medium carried after.unit
   provides_on sector bytes before after status its read floats = either_way (is_sector_of before sector bytes)
-      ((status ≡ a_status.Done) × IsProvided sector bytes before after) ((status ≡ a_status.OutOfRange) × (after ≡ before)) (Under after.unit)
+      ((status ≡ a_status.Done) × IsProvided sector bytes before after) ((status ≡ a_status.OutOfRange) × (after ≡ before)) (Floats whole_from sectors handed medium carried after.unit)
       (λ so.
       let put = so.1 in
       let said = floats.said in
@@ -132,7 +124,7 @@ module _ {whole_from sectors : ℕ} {handed : List EtcsOutput} {medium : Platter
       let same : request_state after.unit.moored.reading.disk ≡ request_state before.unit.moored.reading.disk =
       provided_same before.unit.moored.reading.disk sector bytes after.unit.moored.reading.disk carried put.exact.1 put.same (read so.0 ∙ floats.there.contents sector) in
       still before.unit after.unit put.exact.0 same put.held.0 (omega (arith, said, done)) floats)
-      (λ nothing. subst Into (sym nothing.1) floats)
+      (λ nothing. subst (λ (o : Opened). Floats whole_from sectors handed medium carried o.unit) (sym nothing.1) floats)
       its
 
 -- ---- a release

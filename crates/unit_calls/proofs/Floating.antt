@@ -1,7 +1,7 @@
 -- A unit that is open along with its caller's medium, call by call.
 use Rattle.std.proofs.Common.{◌≡◌, inl, ⊎_elim, ℕ, ◌+◌, ◌<◌, ◌≤◌, List, [], ◌++◌, length, map, refl, sym, ◌∙◌, ap, subst, arith}
 use Rattle.std.proofs.lemmas.List.{append-nil, map-append}
-use Rattle.disk.specs.State.{State, Platter, contents_of, IsImage, IsSynced, AtEachMoment}
+use Rattle.disk.specs.State.{State, Platter, IsImage, AtEachMoment}
 use Rattle.disk.specs.declared.record.Call.{Call}
 use Rattle.events.specs.declared.input.Event.{Event}
 use Rattle.journal.specs.JournalState.{JournalState}

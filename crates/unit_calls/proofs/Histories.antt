@@ -1,5 +1,5 @@
 -- What stays so, whatever happens.
-use Rattle.std.proofs.Common.{◌≡◌, ◌⊎◌, inl, inr, ℕ, ◌+◌, List, [], ◌∷◌, ◌++◌, length, map, take, Option, Some, None, Result, Ok, Err, refl, sym, ◌∙◌, ap, subst, arith}
+use Rattle.std.proofs.Common.{◌≡◌, ◌⊎◌, inl, inr, ℕ, ◌+◌, false, List, [], ◌∷◌, ◌++◌, length, map, take, Option, Some, None, Result, Ok, Err, refl, sym, ◌∙◌, ap, subst, arith}
 use Rattle.std.specs.Prelude.{◌==◌, ◌*◌, ◌/◌, MatchOption}
 use Rattle.std.proofs.lemmas.List.{append-nil}
 use Rattle.disk.specs.State.{State, Platter, contents_of, IsImage}
@@ -7,7 +7,7 @@ use Rattle.events.specs.declared.input.Event.{Event}
 use Rattle.events.specs.declared.input.Event.TheVariants.{PowerUp}
 use Rattle.events.specs.declared.input.Input.{Input}
 use Rattle.c_numbers.specs.Numbers.{this_abi}
-use Rattle.request_disk.specs.Requesting.{Requesting, copy_of, request_state}
+use Rattle.request_disk.specs.Requesting.{Requesting}
 use Rattle.mode_table.specs.declared.statuses.Cold.{Cold}
 use Rattle.unit_start.specs.Lives.{Describes, DescribesEither, IsReady, IsOfOpening}
 use Rattle.unit_start.specs.Releases.{Release}

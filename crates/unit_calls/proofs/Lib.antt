@@ -3,6 +3,7 @@ pub mod Carrying
 pub mod Either
 pub mod Emptying
 pub mod Ending
+pub mod Explaining
 pub mod Floating
 pub mod Goings
 pub mod HeldValues

@@ -1,15 +1,19 @@
 -- What contracts see of a unit that hands out its requests (this project's profile). Requests are counted from the
 -- first of the list.
-use Rattle.std.specs.Prelude.{◌≡◌, ℕ, ◌+◌, ◌%◌, ◌≤◌, Bool, true, false, not, ◌&&◌, ◌||◌, nat_lt, if◌then◌else◌, List, [], length, Option, Some, None, option_map, Result, Ok, Err}
+use Rattle.std.specs.Prelude.{◌≡◌, ℕ, ◌+◌, ◌%◌, ◌≤◌, Bool, true, false, not, ◌&&◌, ◌||◌, nat_lt, if◌then◌else◌, List, length, Option, Some, None, option_map, Result, Ok, Err}
 use Rattle.arrayvec.specs.ArrayVec.{ArrayVec}
-use Rattle.disk.specs.State.{State, contents_of}
+use Rattle.disk.specs.State.{State, contents_of, IsSynced}
 use Rattle.disk.specs.declared.record.Call.{Call}
 use Rattle.events.specs.declared.input.Event.{Event}
+use Rattle.events.specs.declared.input.Input.{Input}
+use Rattle.journal.specs.Journals.{IsOpen}
 use Rattle.mode_table.specs.declared.statuses.Cold.{Cold}
 use Rattle.request_disk.specs.Requests.{ends_in_sync}
 use Rattle.request_disk.specs.Requesting.{request_state, knows}
-use Rattle.onboard.specs.Answers.{flush_refusal, puts_block}
+use Rattle.onboard.specs.Answers.{flush_refusal, puts_block, refusal_of}
 use Rattle.onboard.specs.Flushes.{releases_in, without_disk, Flushes}
+use Rattle.onboard.specs.Progress.{Progress, progress_of}
+use Rattle.onboard.specs.declared.errors.AcceptError.{AcceptError}
 use Rattle.unit_start.specs.PowersUp.{Continues, PowersUp}
 use Rattle.unit_start.specs.Releases.{Release}
 use Rattle.unit_start.specs.UnitState.{PartsState}
@@ -21,34 +25,32 @@ use Rattle.relayed_unit.specs.declared.errors.PrepareError.TheVariants as a_prep
 use Rattle.relayed_unit.specs.declared.errors.ReleaseError.{ReleaseError}
 use Rattle.relayed_unit.specs.declared.errors.ReleaseError.TheVariants as a_release
 use Rattle.relayed_unit.specs.declared.moored.Moored.{Moored}
+use Rattle.ring.specs.Account.{Account}
 use Rattle.ring.specs.Slots.{gate_at, next_is_closed}
 
 -- The unit along with the disk that hands out its requests, the outputs that are held back, how many requests are done, and whether the
--- medium failed. There is always a unit, after each call.
+-- medium failed.
 pub record Relayed : Type 0 where
-  pub moored : Option Moored
+  pub moored : Moored
   pub outputs : List Release
   pub done : ℕ
   pub failed : Bool
 
 -- ---- the list of requests
 
-abbrev pub list_of : Option Moored → List Call
-list_of None = []
-list_of (Some moored) = moored.reading.disk.requests
+abbrev pub list_of : Moored → List Call
+list_of moored = moored.reading.disk.requests
 
 -- the bytes that the requests write, one after the other
-abbrev pub written_of : Option Moored → List ℕ
-written_of None = []
-written_of (Some moored) = moored.reading.disk.written
+abbrev pub written_of : Moored → List ℕ
+written_of moored = moored.reading.disk.written
 
 -- how many sectors the medium has
-abbrev pub sectors_in : Option Moored → ℕ
-sectors_in None = 0
-sectors_in (Some moored) = moored.reading.disk.sectors
+abbrev pub sectors_in : Moored → ℕ
+sectors_in moored = moored.reading.disk.sectors
 
 -- how many requests the list has
-abbrev pub requests_of : Option Moored → ℕ
+abbrev pub requests_of : Moored → ℕ
 requests_of moored = length (list_of moored)
 
 -- all requests are done
@@ -56,12 +58,6 @@ abbrev pub AllDone : Relayed → Type 0
 AllDone u = requests_of u.moored ≤ u.done
 
 -- ---- what a call leaves
-
--- a call turns the unit along with its disk into one to which it stands so
-abbrev pub Turns : Option Moored → Option Moored → (Moored → Moored → Type 0) → Type 0
-Turns None after So = Unit {0}
-Turns (Some before) None So = ⊥
-Turns (Some before) (Some after) So = So before after
 
 -- what was pending was flushed onto the disk, and these outputs of it are held back
 abbrev pub IsFlushed : List Release → Moored → Moored → Type 0
@@ -103,7 +99,22 @@ IsNextGate is_shut current = flush_puts current ≡ true
 abbrev pub WantsNothing : Moored → Type 0
 WantsNothing current = current.reading.disk.wanted ≡ None
 
+-- no sector of the medium is open; the disk holds what it held, and the journal stands over it as before
+abbrev pub StaysOpen : Moored → Moored → Type 0
+StaysOpen before after = (let old : State = request_state before.reading.disk in let new : State = request_state after.reading.disk in
+    IsSynced old × IsSynced new × ((s : ℕ) → contents_of new s ≡ contents_of old s)
+    × ((reported : Account) → IsOpen before.unit.journal reported old → IsOpen after.unit.journal reported new))
+
 -- ---- why calls are refused
+
+-- why an input isn't taken
+abbrev pub input_refusal : Relayed → Input → Option AcceptError
+input_refusal u input =
+    refusal_of (u.failed || u.moored.unit.journal.failed) (length u.moored.unit.life.records) u.moored.unit.life.moment input
+
+-- what refusals go by, of all lives
+abbrev pub progress_in : Moored → Progress
+progress_in moored = progress_of moored.unit.journal moored.unit.life
 
 -- what a flush onto the disk is refused with
 abbrev pub refused_as : FlushError → PrepareError
@@ -129,12 +140,12 @@ prepare_failed (Err a_prepare.WornOut) = false
 prepare_failed (Err a_prepare.SectorWanted) = false
 
 -- what a refusal leaves: all as it was, but that the gate is wanted where it isn't known
-abbrev pub IsLeftBy : PrepareError → Option Moored → Option Moored → Type 0
+abbrev pub IsLeftBy : PrepareError → Moored → Moored → Type 0
 IsLeftBy a_prepare.Failed before after = after ≡ before
 IsLeftBy a_prepare.RequestsOwed before after = after ≡ before
 IsLeftBy a_prepare.WornOut before after = after ≡ before
-IsLeftBy a_prepare.SectorWanted before after = Turns before after (λ current next. (next.unit ≡ current.unit)
-    × (next.reading.disk ≡ record current.reading.disk { wanted = Some (next_gate current) }))
+IsLeftBy a_prepare.SectorWanted before after = (after.unit ≡ before.unit)
+    × (after.reading.disk ≡ record before.reading.disk { wanted = Some (next_gate before) })
 
 -- why nothing is released: the first of these that holds
 abbrev pub release_refusal : Relayed → Option ReleaseError

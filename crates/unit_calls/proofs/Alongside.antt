@@ -1,32 +1,28 @@
 -- A unit along with its caller's medium, and what calls leave of it.
-use Rattle.std.proofs.Common.{◌≡◌, ℕ, ◌≤◌, Bool, true, false, List, [], ◌∷◌, ◌++◌, length, map, take, drop, Option, Some, None, IfSome, Result, Ok, Err, refl, sym, ◌∙◌, ap, subst, arith}
+use Rattle.std.proofs.Common.{◌≡◌, ℕ, ◌≤◌, Bool, true, false, List, ◌∷◌, ◌++◌, length, map, take, drop, Option, Some, None, Result, Ok, Err, refl, sym, ◌∙◌, ap, subst, arith}
 use Rattle.std.specs.Prelude.{option_map, nat_lt, if◌then◌else◌, IsOk, MatchOption, ⊤}
 use Rattle.std.proofs.lemmas.Bool.Decides.{nat_tests}
 use Rattle.std.proofs.lemmas.List.{length-map}
 use Rattle.std.proofs.Math.Seq.{take-append_seam}
-use Rattle.disk.specs.State.{Platter, contents_of, IsSynced}
+use Rattle.disk.specs.State.{Platter}
 use Rattle.events.specs.Limits.{most_pending}
-use Rattle.events.specs.declared.input.Event.{Event}
 use Rattle.events.specs.declared.input.Event.TheVariants.{Input as an_input}
 use Rattle.events.specs.declared.input.Input.{Input}
-use Rattle.journal.specs.JournalState.{JournalState}
-use Rattle.journal.specs.Journals.{IsOpen}
 use Rattle.request_disk.specs.Requests.{ends_in_sync}
-use Rattle.request_disk.specs.Requesting.{Requesting, request_state, with_sector}
+use Rattle.request_disk.specs.Requesting.{Requesting, request_state}
 use Rattle.request_disk.specs.declared.reading.Reading.{Reading}
 use Rattle.onboard.specs.Answers.{flush_refusal}
-use Rattle.unit_start.specs.Events.{account_of, IsAhead}
+use Rattle.unit_start.specs.Events.{IsAhead}
 use Rattle.unit_start.specs.Releases.{Release}
-use Rattle.unit_start.specs.UnitState.{LifeState, UnitState}
+use Rattle.unit_start.specs.UnitState.{UnitState}
 use Rattle.onboard.specs.declared.errors.AcceptError.{AcceptError}
-use Rattle.relayed_unit.specs.Relayed.{Relayed, refused_as, IsFlushed, Turns, list_of, requests_of, release_refusal, prepare_refusal, next_gate, wants_gate, IsLeftBy}
+use Rattle.relayed_unit.specs.Relayed.{Relayed, refused_as, list_of, requests_of, release_refusal, wants_gate, IsLeftBy}
 use Rattle.relayed_unit.specs.declared.absent.Absent.{Absent}
 use Rattle.relayed_unit.specs.declared.errors.PrepareError.{PrepareError}
 use Rattle.relayed_unit.specs.declared.errors.PrepareError.TheVariants as a_prepare
 use Rattle.relayed_unit.specs.declared.errors.ReleaseError.{ReleaseError}
 use Rattle.relayed_unit.specs.declared.errors.ReleaseError.TheVariants as a_release
 use Rattle.relayed_unit.specs.declared.moored.Moored.{Moored}
-use Rattle.ring.specs.Account.{Account}
 use Rattle.unit_calls.specs.Handles.{Accepts, IsPrepared, Says, Fails, Handing, HandsNothing, HandsAll, Releases}
 use Rattle.unit_calls.specs.Histories.{AreOnMedium}
 use Rattle.unit_calls.specs.Outputs.{description_of, AreHanded}
@@ -37,45 +33,12 @@ use Rattle.unit_calls.specs.declared.handle.Opened.{Opened}
 use Rattle.unit_calls.specs.declared.outputs.EtcsOutput.{EtcsOutput}
 use Rattle.unit_calls.specs.declared.status.Status.{Status}
 use Rattle.unit_calls.specs.declared.status.Status.TheVariants as a_status
-use Rattle.unit_calls.proofs.Floating.{Floats, wants, keeps, accepts, says, prepares, releases}
+use Rattle.unit_calls.proofs.Floating.{Floats, stays, prepares, releases}
 use Rattle.unit_calls.proofs.Providing.{provided_same}
-
--- ---- parts of a unit
-
-module _ (So : Moored → Moored → Type 0) (current : Moored) where
-  -- what a call makes of a unit that is there
-  turned : (old new : Option Moored) → old ≡ Some current → Turns old new So → (next : Moored) × (new ≡ Some next) × So current next
-  turned old None there is = absurd (subst (λ (o : Option Moored). Turns o None So) there is)
-  turned old (Some next) there is = (next, refl, subst (λ (o : Option Moored). Turns o (Some next) So) there is)
-
-  turned_to : (old new : Option Moored) (next : Moored) → old ≡ Some current → new ≡ Some next → Turns old new So → So current next
-  turned_to old new next there next_is is =
-      let N : Option Moored → Type 0 = λ n. Turns old n So in
-      let O : Option Moored → Type 0 = λ o. Turns o (Some next) So in
-      subst O there (subst N next_is is)
-
-pub at_some : (P : Moored → Type 0) (current : Moored) (o : Option Moored) → o ≡ Some current → IfSome o P → P current
-at_some P current o there is = subst (λ (m : Option Moored). IfSome m P) there is
-
-module _ (whole_from sectors : ℕ) (handed : List EtcsOutput) (medium : Platter) (carried : ℕ) where
-  floats_as : (m m' : Requesting) (j j' : JournalState) (l l' : LifeState) (o o' : List Release) (d d' : ℕ) → m' ≡ m → j' ≡ j → l' ≡ l → o' ≡ o → d' ≡ d
-      → Floats whole_from sectors handed medium carried m j l o d → Floats whole_from sectors handed medium carried m' j' l' o' d'
-  floats_as m m' j j' l l' o o' d d' same_m same_j same_l same_o same_d current =
-      let M : Requesting → Type 0 = λ x. Floats whole_from sectors handed medium carried x j' l' o' d' in
-      let J : JournalState → Type 0 = λ x. Floats whole_from sectors handed medium carried m x l' o' d' in
-      let L : LifeState → Type 0 = λ x. Floats whole_from sectors handed medium carried m j x o' d' in
-      let O : List Release → Type 0 = λ x. Floats whole_from sectors handed medium carried m j l x d' in
-      let D : ℕ → Type 0 = λ x. Floats whole_from sectors handed medium carried m j l o x in
-      subst M (sym same_m) (subst J (sym same_j) (subst L (sym same_l) (subst O (sym same_o) (subst D (sym same_d) current))))
-
--- a unit along with the medium
-abbrev pub IsUnder : ℕ → ℕ → List EtcsOutput → Platter → ℕ → Relayed → Type 0
-IsUnder whole_from sectors handed medium carried unit = (current : Moored) × (unit.moored ≡ Some current)
-    × Floats whole_from sectors handed medium carried current.reading.disk current.unit.journal current.unit.life unit.outputs unit.done
 
 abbrev pub Kept : ℕ → ℕ → Option Opened → List EtcsOutput → Platter → ℕ → Type 0
 Kept whole_from sectors None handed medium carried = AreOnMedium whole_from sectors handed medium
-Kept whole_from sectors (Some opened) handed medium carried = IsUnder whole_from sectors handed medium carried opened.unit
+Kept whole_from sectors (Some opened) handed medium carried = Floats whole_from sectors handed medium carried opened.unit
 
 -- ---- calls on a unit
 
@@ -98,108 +61,70 @@ all_done false false synced is = refl
 not_above : (n m : ℕ) → nat_lt n m ≡ false → m ≤ n
 not_above n m is = grind (arith, nat_tests)
 
-module _ (whole_from sectors : ℕ) (handed : List EtcsOutput) (medium : Platter) (carried : ℕ) where
-  abbrev Under : Relayed → Type 0
-  Under unit = IsUnder whole_from sectors handed medium carried unit
+-- what a refusal leaves of the unit, and of what its disk holds
+same_unit : (e : PrepareError) (before after : Moored) → IsLeftBy e before after → after.unit ≡ before.unit
+same_unit a_prepare.Failed before after left = ap (λ (m : Moored). m.unit) left
+same_unit a_prepare.RequestsOwed before after left = ap (λ (m : Moored). m.unit) left
+same_unit a_prepare.WornOut before after left = ap (λ (m : Moored). m.unit) left
+same_unit a_prepare.SectorWanted before after left = left.0
 
-  -- the unit as it was, with other counts
-  still : (before after : Relayed) → after.moored ≡ before.moored → after.outputs ≡ before.outputs → (current : Moored) → before.moored ≡ Some current
-      → Floats whole_from sectors handed medium carried current.reading.disk current.unit.journal current.unit.life before.outputs after.done → Under after
-  still before after same outputs current there floats = (
-    current,
-    same ∙ there,
-    floats_as whole_from sectors handed medium carried current.reading.disk current.reading.disk current.unit.journal current.unit.journal current.unit.life current.unit.life before.outputs after.outputs after.done after.done
-        refl refl refl outputs refl floats,
-  )
+same_disk : (e : PrepareError) (before after : Moored) → IsLeftBy e before after → request_state after.reading.disk ≡ request_state before.reading.disk
+same_disk a_prepare.Failed before after left = ap (λ (m : Moored). request_state m.reading.disk) left
+same_disk a_prepare.RequestsOwed before after left = ap (λ (m : Moored). request_state m.reading.disk) left
+same_disk a_prepare.WornOut before after left = ap (λ (m : Moored). request_state m.reading.disk) left
+same_disk a_prepare.SectorWanted before after left = ap (λ (d : Requesting). request_state d) left.1
 
-  pub takes_on : (input : Input) (before after : Relayed) (reported : Result ⊤ AcceptError) → Accepts input before after reported → Under before → Under after
-  takes_on input before after (Err e) its under = subst Under (sym its.refused) under
-  takes_on input before after (Ok x) its (current, there, floats) =
-      let Copied : Moored → Moored → Type 0 = λ current next. (next.reading ≡ current.reading) × (next.unit.journal ≡ current.unit.journal) in
-      let Accepted : Moored → Moored → Type 0 = λ current next. (durable accepted : List Event) → IsAhead durable accepted current.unit.life → IsAhead durable (an_input input ∷ accepted) next.unit.life in
-      let copied = turned Copied current before.moored after.moored there its.copy in
-      let next : Moored = copied.0 in
-      let accepted = turned_to Accepted current before.moored after.moored next there copied.1 its.accepted in (
-        next,
-        copied.1,
-        floats_as whole_from sectors handed medium carried current.reading.disk next.reading.disk current.unit.journal next.unit.journal next.unit.life next.unit.life before.outputs after.outputs before.done after.done
-            (ap (λ (r : Reading). r.disk) copied.2.0) copied.2.1 refl its.held.0 its.held.1
-            (accepts whole_from sectors handed medium carried current.reading.disk current.unit.journal current.unit.life before.outputs before.done floats
-            (an_input input ∷ floats.accepted) next.unit.life (accepted floats.durable floats.accepted floats.ahead)),
-      )
+module _ {whole_from sectors : ℕ} {handed : List EtcsOutput} {medium : Platter} {carried : ℕ} where
+  -- the unit is as it was, and its disk holds what it held
+  still : (before after : Relayed) → after.moored.unit ≡ before.moored.unit → request_state after.moored.reading.disk ≡ request_state before.moored.reading.disk
+      → after.outputs ≡ before.outputs → after.done ≤ carried → Floats whole_from sectors handed medium carried before → Floats whole_from sectors handed medium carried after
+  still before after unit disk outputs said floats =
+      let Ahead : UnitState Absent → Type 0 = λ u. IsAhead floats.durable floats.accepted u.life in
+      stays floats after disk (ap (λ (u : UnitState Absent). u.journal) unit) outputs said floats.accepted (subst Ahead (sym unit) floats.ahead)
 
-  -- what a refusal leaves
-  left_by : (e : PrepareError) (before after : Relayed) → IsLeftBy e before.moored after.moored → after.outputs ≡ before.outputs → (current : Moored) → before.moored ≡ Some current
-      → Floats whole_from sectors handed medium carried current.reading.disk current.unit.journal current.unit.life before.outputs after.done → Under after
-  left_by a_prepare.Failed before after same outputs current there floats = still before after same outputs current there floats
-  left_by a_prepare.RequestsOwed before after same outputs current there floats = still before after same outputs current there floats
-  left_by a_prepare.WornOut before after same outputs current there floats = still before after same outputs current there floats
-  left_by a_prepare.SectorWanted before after left outputs current there floats =
-      let Left : Moored → Moored → Type 0 = λ current next. (next.unit ≡ current.unit) × (next.reading.disk ≡ record current.reading.disk { wanted = Some (next_gate current) }) in
-      let now = turned Left current before.moored after.moored there left in
-      let next : Moored = now.0 in
-      let disk : Requesting = record current.reading.disk { wanted = Some (next_gate current) } in (
-        next,
-        now.1,
-        floats_as whole_from sectors handed medium carried disk next.reading.disk current.unit.journal next.unit.journal current.unit.life next.unit.life before.outputs after.outputs after.done after.done
-            now.2.1 (ap (λ (u : UnitState Absent). u.journal) now.2.0) (ap (λ (u : UnitState Absent). u.life) now.2.0) outputs refl
-            (wants whole_from sectors handed medium carried current.reading.disk current.unit.journal current.unit.life before.outputs after.done floats (Some (next_gate current))),
-      )
+  pub takes_on : (input : Input) (before after : Relayed) (reported : Result ⊤ AcceptError) → Accepts input before after reported → Floats whole_from sectors handed medium carried before → Floats whole_from sectors handed medium carried after
+  takes_on input before after (Err e) its floats = subst (λ (u : Relayed). Floats whole_from sectors handed medium carried u) (sym its.refused) floats
+  takes_on input before after (Ok x) its floats =
+      let said = floats.said in
+      let done = its.held.1 in
+      stays floats after (ap (λ (r : Reading). request_state r.disk) its.copy.0) its.copy.1 its.held.0 (omega (arith, said, done))
+      (an_input input ∷ floats.accepted) (its.accepted floats.durable floats.accepted floats.ahead)
 
-  pub prepares_on : (before after : Relayed) (reported : Result ⊤ PrepareError) → IsPrepared before after reported → Under before → Under after
-  prepares_on before after (Err e) its (current, there, floats) =
-      let D : ℕ → Type 0 = λ d. Floats whole_from sectors handed medium carried current.reading.disk current.unit.journal current.unit.life before.outputs d in
-      left_by e before after its.undone its.held.0 current there (subst D (sym its.held.1) floats)
-  prepares_on before after (Ok x) its (current, there, floats) =
-      let now = turned (IsFlushed after.outputs) current before.moored after.moored there its.flushes in
-      let next : Moored = now.0 in
-      let exact = at_some (λ m. let r : Result ⊤ PrepareError = Ok x in MatchOption (prepare_refusal before.failed m) (IsOk r) (λ e. r ≡ Err e)) current before.moored there its.exact in
+  pub prepares_on : (before after : Relayed) (reported : Result ⊤ PrepareError) → IsPrepared before after reported → Floats whole_from sectors handed medium carried before → Floats whole_from sectors handed medium carried after
+  prepares_on before after (Err e) its floats =
+      let said = floats.said in
+      let done = its.held.1 in
+      still before after (same_unit e before.moored after.moored its.undone) (same_disk e before.moored after.moored its.undone) its.held.0 (omega (arith, said, done)) floats
+  prepares_on before after (Ok x) its floats =
+      let current : Moored = before.moored in
       let owed : nat_lt 0 (length current.reading.disk.requests) ≡ false = none_owed x before.failed (nat_lt 0 (length current.reading.disk.requests))
-      (if wants_gate current then Some a_prepare.SectorWanted else option_map refused_as (flush_refusal current.unit.journal.failed (length current.unit.life.records) current.unit.journal.newest)) exact in
+      (if wants_gate current then Some a_prepare.SectorWanted else option_map refused_as (flush_refusal current.unit.journal.failed (length current.unit.life.records) current.unit.journal.newest)) its.exact in
       let least : length current.reading.disk.requests ≤ 0 = not_above 0 (length current.reading.disk.requests) owed in
-      let following = now.2.flushed whole_from floats.durable floats.accepted refl floats.opened floats.ahead in (
-        next,
-        now.1,
-        floats_as whole_from sectors handed medium carried next.reading.disk next.reading.disk next.unit.journal next.unit.journal next.unit.life next.unit.life current.unit.life.pairs after.outputs 0 after.done
-            refl refl refl now.2.released its.initial
-            (prepares whole_from sectors handed medium carried current.reading.disk current.unit.journal current.unit.life before.outputs before.done floats
-            (omega (arith, least)) next.reading.disk next.unit.journal next.unit.life now.2.counted.sectors (now.2.any_moment whole_from floats.durable floats.accepted refl floats.opened floats.ahead) following.0 following.1),
-      )
+      let following = its.flushes.flushed whole_from floats.durable floats.accepted refl floats.opened floats.ahead in
+      prepares floats (omega (arith, least)) after its.flushes.counted.sectors (its.flushes.any_moment whole_from floats.durable floats.accepted refl floats.opened floats.ahead)
+      following.0 following.1 its.flushes.released its.initial
 
-  pub says_on : (count : ℕ) (before after : Opened) (status : Status) → Says count before after status → (status ≡ a_status.Done → count ≤ carried) → Under before.unit → Under after.unit
-  says_on count before after status (true, iff, answer, done, outputs, moored, failed, last) most (current, there, floats) =
-      let D : ℕ → Type 0 = λ d. Floats whole_from sectors handed medium carried current.reading.disk current.unit.journal current.unit.life before.unit.outputs d in
-      still before.unit after.unit moored outputs current there
-      (subst D (sym done) (says whole_from sectors handed medium carried current.reading.disk current.unit.journal current.unit.life before.unit.outputs before.unit.done floats count (most answer)))
-  says_on count before after status (false, iff, answer, done, outputs, moored, failed, last) most (current, there, floats) =
-      let D : ℕ → Type 0 = λ d. Floats whole_from sectors handed medium carried current.reading.disk current.unit.journal current.unit.life before.unit.outputs d in
-      still before.unit after.unit moored outputs current there (subst D (sym done) floats)
+  pub says_on : (count : ℕ) (before after : Opened) (status : Status) → Says count before after status → (status ≡ a_status.Done → count ≤ carried) → Floats whole_from sectors handed medium carried before.unit → Floats whole_from sectors handed medium carried after.unit
+  says_on count before after status (true, iff, answer, is) most floats =
+      subst (λ (o : Opened). Floats whole_from sectors handed medium carried o.unit) (sym is) (stays floats (record before.unit { done = count }) refl refl refl (most answer) floats.accepted floats.ahead)
+  says_on count before after status (false, iff, answer, is) most floats = subst (λ (o : Opened). Floats whole_from sectors handed medium carried o.unit) (sym is) floats
 
-  pub fails_on : (before after : Opened) (status : Status) → Fails before after status → Under before.unit → Under after.unit
-  fails_on before after status (answer, failed, outputs, moored, done, last) (current, there, floats) =
-      let D : ℕ → Type 0 = λ d. Floats whole_from sectors handed medium carried current.reading.disk current.unit.journal current.unit.life before.unit.outputs d in
-      still before.unit after.unit moored outputs current there (subst D (sym done) floats)
+  pub fails_on : (before after : Opened) (status : Status) → Fails before after status → Floats whole_from sectors handed medium carried before.unit → Floats whole_from sectors handed medium carried after.unit
+  fails_on before after status (answer, is) floats =
+      subst (λ (o : Opened). Floats whole_from sectors handed medium carried o.unit) (sym is) (stays floats (record before.unit { failed = true }) refl refl refl floats.said floats.accepted floats.ahead)
 
   pub provides_on : (sector : ℕ) (bytes : List ℕ) (before after : Opened) (status : Status) → Provides sector bytes before after status
-      → (status ≡ a_status.Done → bytes ≡ medium.contents sector) → Under before.unit → Under after.unit
-  provides_on sector bytes before after status its read (current, there, floats) = either_way (is_sector_of before sector bytes)
-      ((status ≡ a_status.Done) × IsProvided sector bytes before after) ((status ≡ a_status.OutOfRange) × (after ≡ before)) (Under after.unit)
+      → (status ≡ a_status.Done → bytes ≡ medium.contents sector) → Floats whole_from sectors handed medium carried before.unit → Floats whole_from sectors handed medium carried after.unit
+  provides_on sector bytes before after status its read floats = either_way (is_sector_of before sector bytes)
+      ((status ≡ a_status.Done) × IsProvided sector bytes before after) ((status ≡ a_status.OutOfRange) × (after ≡ before)) (Floats whole_from sectors handed medium carried after.unit)
       (λ so.
-      let provided = so.1 in
-      let Put : Moored → Moored → Type 0 = λ current next. (next.unit ≡ current.unit) × (next.reading.disk ≡ with_sector sector bytes current.reading.disk) in
-      let Same : Moored → Moored → Type 0 = λ current next. bytes ≡ contents_of (request_state current.reading.disk) sector → request_state next.reading.disk ≡ request_state current.reading.disk in
-      let put = turned Put current before.unit.moored after.unit.moored there provided.exact in
-      let next : Moored = put.0 in
-      let same = turned_to Same current before.unit.moored after.unit.moored next there put.1 provided.same in
-      let still : request_state next.reading.disk ≡ request_state current.reading.disk =
-      provided_same current.reading.disk sector bytes next.reading.disk carried put.2.1 same (read so.0 ∙ floats.there.contents sector) in (
-        next,
-        put.1,
-        floats_as whole_from sectors handed medium carried next.reading.disk next.reading.disk current.unit.journal next.unit.journal current.unit.life next.unit.life before.unit.outputs after.unit.outputs before.unit.done after.unit.done
-            refl (ap (λ (u : UnitState Absent). u.journal) put.2.0) (ap (λ (u : UnitState Absent). u.life) put.2.0) provided.held.0 provided.held.1
-            (keeps whole_from sectors handed medium carried current.reading.disk current.unit.journal current.unit.life before.unit.outputs before.unit.done floats next.reading.disk still),
-      ))
-      (λ nothing. subst (λ (o : Opened). Under o.unit) (sym nothing.1) (current, there, floats))
+      let put = so.1 in
+      let said = floats.said in
+      let done = put.held.1 in
+      let same : request_state after.unit.moored.reading.disk ≡ request_state before.unit.moored.reading.disk =
+      provided_same before.unit.moored.reading.disk sector bytes after.unit.moored.reading.disk carried put.exact.1 put.same (read so.0 ∙ floats.there.contents sector) in
+      still before.unit after.unit put.exact.0 same put.held.0 (omega (arith, said, done)) floats)
+      (λ nothing. subst (λ (o : Opened). Floats whole_from sectors handed medium carried o.unit) (sym nothing.1) floats)
       its
 
 -- ---- a release
@@ -225,64 +150,39 @@ handed_out outputs places handed count is counted =
     ∙ ap (λ (l : List EtcsOutput). take (length (map description_of outputs)) l) is
     ∙ take-append_seam (map description_of outputs) rest
 
-module _ (whole_from sectors : ℕ) (handed handed' : List EtcsOutput) (medium : Platter) (carried carried' : ℕ) (was is : Opened) (h : Handing)
+module _ {whole_from sectors : ℕ} {handed : List EtcsOutput} (handed' : List EtcsOutput) {medium : Platter} {carried : ℕ} (carried' : ℕ) (was is : Opened) (h : Handing)
     (out : IfElse (is_done h.status) ((handed' ≡ handed ++ take h.count h.handed) × (carried' ≡ 0)) ((handed' ≡ handed) × (carried' ≡ carried)))
-    (under : IsUnder whole_from sectors handed medium carried was.unit) where
+    (under : Floats whole_from sectors handed medium carried was.unit) where
   abbrev HandedOut : Type 0
   HandedOut = (handed' ≡ handed ++ take h.count h.handed) × (carried' ≡ 0)
 
   abbrev HandedNothing : Type 0
   HandedNothing = (handed' ≡ handed) × (carried' ≡ carried)
 
-  abbrev Now : Type 0
-  Now = IsUnder whole_from sectors handed' medium carried' is.unit
+  -- what was handed out, and how much was carried out
+  abbrev Now : List EtcsOutput → ℕ → Opened → Type 0
+  Now outputs n opened = Floats whole_from sectors outputs medium n opened.unit
 
-  handed_nothing : (status : Status) → is_done status ≡ false → HandsNothing status was is h → Now
+  handed_nothing : (status : Status) → is_done status ≡ false → HandsNothing status was is h → Now handed' carried' is
   handed_nothing status not_done its =
       let so = where_false (is_done h.status) HandedOut HandedNothing (ap is_done its.0 ∙ not_done) out in
-      let U : Opened → Type 0 = λ o. IsUnder whole_from sectors handed medium carried o.unit in
-      let H : List EtcsOutput → Type 0 = λ l. IsUnder whole_from sectors l medium carried is.unit in
-      let C : ℕ → Type 0 = λ n. IsUnder whole_from sectors handed' medium n is.unit in
-      subst C (sym so.1) (subst H (sym so.0) (subst U (sym its.3) under))
+      subst (λ (n : ℕ). Now handed' n is) (sym so.1) (subst (λ (l : List EtcsOutput). Now l carried is) (sym so.0) (subst (Now handed carried) (sym its.3) under))
 
-  handed_all : release_refusal was.unit ≡ None → HandsAll was is h → Now
+  handed_all : release_refusal was.unit ≡ None → HandsAll was is h → Now handed' carried' is
   handed_all none its =
-      let current : Moored = under.0 in
-      let there = under.1 in
       let released = its.released in
       let so = where_true (is_done h.status) HandedOut HandedNothing (ap is_done its.done) out in
-      let same = turned (λ current next. next.unit ≡ current.unit) current was.unit.moored is.unit.moored there released.unit in
-      let next : Moored = same.0 in
-      let size = turned_to (λ current next. next.reading.disk.sectors ≡ current.reading.disk.sectors) current was.unit.moored is.unit.moored next there same.1 released.sectors in
-      let Stands : Moored → Moored → Type 0 = λ current next. IsSynced (request_state current.reading.disk) × IsSynced (request_state next.reading.disk)
-      × ((s : ℕ) → contents_of (request_state next.reading.disk) s ≡ contents_of (request_state current.reading.disk) s)
-      × ((reported : Account) → IsOpen current.unit.journal reported (request_state current.reading.disk) → IsOpen next.unit.journal reported (request_state next.reading.disk)) in
-      let stands = turned_to Stands current was.unit.moored is.unit.moored next there same.1 released.stands in
       let owed = all_done was.unit.failed (nat_lt was.unit.done (requests_of was.unit.moored)) (ends_in_sync (list_of was.unit.moored)) none in
-      let all : length current.reading.disk.requests ≤ was.unit.done =
-      subst (λ (m : Option Moored). requests_of m ≤ was.unit.done) there (not_above was.unit.done (requests_of was.unit.moored) owed) in
-      let empty : next.reading.disk.requests ≡ [] = sym (ap list_of same.1) ∙ released.emptied.2 in
-      let J : JournalState → Type 0 = λ j. IsOpen j (account_of whole_from under.2.durable) (request_state next.reading.disk) in
-      let stays : IsOpen current.unit.journal (account_of whole_from under.2.durable) (request_state next.reading.disk) =
-      subst J (ap (λ (u : UnitState Absent). u.journal) same.2) (stands.3 (account_of whole_from under.2.durable) under.2.opened) in
-      let floats = releases whole_from sectors handed medium carried current.reading.disk current.unit.journal current.unit.life was.unit.outputs was.unit.done under.2
-      all next.reading.disk empty size stands.0 stands.1 stands.2 stays in
       let more : handed' ≡ handed ++ map description_of was.unit.outputs =
       so.0 ∙ ap (λ (l : List EtcsOutput). handed ++ l) (handed_out was.unit.outputs h.places h.handed h.count its.outputs its.counted) in
-      let U : IsUnder whole_from sectors (handed ++ map description_of was.unit.outputs) medium 0 is.unit = (
-        next,
-        same.1,
-        floats_as whole_from sectors (handed ++ map description_of was.unit.outputs) medium 0 next.reading.disk next.reading.disk current.unit.journal next.unit.journal current.unit.life next.unit.life [] is.unit.outputs 0 is.unit.done
-            refl (ap (λ (u : UnitState Absent). u.journal) same.2) (ap (λ (u : UnitState Absent). u.life) same.2) released.emptied.0 released.emptied.1 floats,
-      ) in
-      let H : List EtcsOutput → Type 0 = λ l. IsUnder whole_from sectors l medium 0 is.unit in
-      let C : ℕ → Type 0 = λ n. IsUnder whole_from sectors handed' medium n is.unit in
-      subst C (sym so.1) (subst H (sym more) U)
+      let floats = releases under (not_above was.unit.done (requests_of was.unit.moored) owed) is.unit released.emptied.2 released.sectors released.stands
+      (ap (λ (u : UnitState Absent). u.life) released.unit) released.emptied.0 released.emptied.1 in
+      subst (λ (n : ℕ). Now handed' n is) (sym so.1) (subst (λ (l : List EtcsOutput). Now l 0 is) (sym more) floats)
 
-  pub releases_on : Releases was is h → Now
+  pub releases_on : Releases was is h → Now handed' carried' is
   releases_on its = either_way (nat_lt (length h.places) most_pending) (HandsNothing a_status.NoRoom was is h)
-      (MatchOption (release_refusal was.unit) (HandsAll was is h) (λ e. HandsNothing (of_release e) was is h)) Now
+      (MatchOption (release_refusal was.unit) (HandsAll was is h) (λ e. HandsNothing (of_release e) was is h)) (Now handed' carried' is)
       (λ nothing. handed_nothing a_status.NoRoom refl nothing)
-      (λ other. by_cause (release_refusal was.unit) (HandsAll was is h) Now (λ e. HandsNothing (of_release e) was is h)
+      (λ other. by_cause (release_refusal was.unit) (HandsAll was is h) (Now handed' carried' is) (λ e. HandsNothing (of_release e) was is h)
       handed_all (λ e nothing. handed_nothing (of_release e) (refused_not_done e) nothing) other)
       its

@@ -3,14 +3,13 @@ pub mod Carrying
 pub mod Either
 pub mod Emptying
 pub mod Ending
+pub mod Explaining
 pub mod Floating
 pub mod Goings
 pub mod HeldValues
 pub mod Histories
 pub mod Parts
-pub mod Permitting
 pub mod Providing
 pub mod Releasing
 pub mod Taking
-pub mod Unreported
 pub mod Values

@@ -1,6 +1,6 @@
 -- What the driver entered, and which actions of the driver would be accepted, as C gets it (SUBSET-026, 3.18.3, 4.10 and 5.4;
 -- which actions are accepted: this project's profile). Speeds are metres per hour; lists of events have the newest first.
-use Rattle.std.specs.Prelude.{◌≡◌, ℕ, ◌||◌, List, [], ◌∷◌, map, Option, Some, None, IfSome}
+use Rattle.std.specs.Prelude.{◌≡◌, ℕ, ◌||◌, List, [], ◌∷◌, map, Option, Some, None}
 use Rattle.c_numbers.specs.KeptItems.{DescribesKept, status_number}
 use Rattle.c_numbers.specs.Numbers.{flag_of}
 use Rattle.driver.specs.Accepting.{accepts}
@@ -15,15 +15,11 @@ use Rattle.mode_control.specs.Life.{Life, driver_of}
 use Rattle.mode_control.specs.Sentences.{situation}
 use Rattle.mode_table.specs.Modes.{number_of as mode_number}
 use Rattle.track_picture.specs.History.{speed_of}
-use Rattle.unit_start.specs.Events.{IsAhead}
-use Rattle.relayed_unit.specs.Relayed.{is_unreleased}
-use Rattle.relayed_unit.specs.declared.moored.Moored.{Moored}
+use Rattle.unit_calls.specs.Asking.{Asks}
 use Rattle.unit_calls.specs.Inputs.{action_by}
-use Rattle.unit_calls.specs.Requests.{IfElse}
 use Rattle.unit_calls.specs.declared.driver_values.EtcsUnitDriver.{EtcsUnitDriver}
 use Rattle.unit_calls.specs.declared.handle.Opened.{Opened}
 use Rattle.unit_calls.specs.declared.status.Status.{Status}
-use Rattle.unit_calls.specs.declared.status.Status.TheVariants as a_status
 
 -- 1 where an action would be accepted as the next event of a life; 0 where it wouldn't, or where there is none
 abbrev pub acceptance : Life → Option Action → ℕ
@@ -61,12 +57,6 @@ pub record DescribesDriver (events : List Event) (reported : EtcsUnitDriver) : T
   pub gave_train : reported.gave_train ≡ flag_of (driver_of (life_of events)).revalidation.train_data
   pub has_left : reported.has_left ≡ flag_of ((driver_of (life_of events)).revalidation.shunting || (driver_of (life_of events)).revalidation.started)
 
--- what is reported is of all accepted events, and the newest one is released: all of them are durable
-abbrev pub IsOfReleased : Moored → EtcsUnitDriver → Type 0
-IsOfReleased current reported = (durable accepted : List Event) → IsAhead durable accepted current.unit.life
-    → (durable ≡ accepted) × DescribesDriver accepted reported
-
--- NotReleased exactly where the newest event isn't released yet, and then nothing is written
+-- all accepted events are reported of
 abbrev pub AsksUnitDriver : Opened → EtcsUnitDriver → EtcsUnitDriver → Status → Type 0
-AsksUnitDriver opened old new status = IfSome opened.unit.moored (λ current. IfElse (is_unreleased current)
-    ((status ≡ a_status.NotReleased) × (new ≡ old)) ((status ≡ a_status.Done) × IsOfReleased current new))
+AsksUnitDriver = Asks DescribesDriver

@@ -1,5 +1,5 @@
 -- What going on with a power-up leaves in its handle (this project's profile).
-use Rattle.std.specs.Prelude.{◌≡◌, ℕ, ◌<◌, ◌≤◌, List, Option, Some, None, Result, Ok, Err, IfOk, IfErr, IfSome, false}
+use Rattle.std.specs.Prelude.{◌≡◌, ℕ, ◌<◌, ◌≤◌, List, Option, Some, None, Result, Ok, Err, IfOk, IfErr, false}
 use Rattle.disk.specs.State.{contents_of}
 use Rattle.onboard.specs.Flushes.{without_disk}
 use Rattle.unit_start.specs.Answers.{is_device}
@@ -31,9 +31,9 @@ pub record IsGoneOn (before : Opening) (reported : Result Going OpenError) : Typ
   -- what was found of the slots is never given up
   pub further : IfOk reported (λ g. OnWants g (λ current. IsFurther before.scan current.scan))
   -- nothing is pending, there is no moment yet, and no flush failed
-  pub fresh_unit : IfOk reported (λ g. OnOpen g (λ u. IfSome u.moored (λ current. IsFresh (without_disk current.unit))))
+  pub fresh_unit : IfOk reported (λ g. OnOpen g (λ u. IsFresh (without_disk u.moored.unit)))
   -- a unit that came of it wants no sector
-  pub wants_nothing : IfOk reported (λ g. OnOpen g (λ u. IfSome u.moored WantsNothing))
+  pub wants_nothing : IfOk reported (λ g. OnOpen g (λ u. WantsNothing u.moored))
   -- the unit was powered up over a disk that holds what the medium held
   pub up : (medium : List ℕ) → IsGoing medium before →
       IfOk reported (λ g. OnOpen g (IsUp (before_any medium before.disk.sectors) before.cold))

@@ -1,32 +1,30 @@
 -- What the calls do to what a handle holds (this project's profile): None where no unit is open. `reported` is what the
 -- call of `RelayedUnit` answered, the status its number.
-use Rattle.std.specs.Prelude.{◌≡◌, ◌↔◌, ℕ, ◌+◌, ◌/◌, ◌<◌, ◌≤◌, ◌==◌, ◌∷◌, ◌&&◌, ◌||◌, not, is_some, nat_lt, Bool, true, false, if◌then◌else◌, List, [], length, Option, Some, None, IsSome, IfSome, Result, Ok, Err, IsOk, IfOk, IfErr, OnOk, OnErr, MatchOption, ⊤}
-use Rattle.disk.specs.State.{contents_of, IsSynced}
+use Rattle.std.specs.Prelude.{◌≡◌, ◌↔◌, ℕ, ◌+◌, ◌/◌, ◌<◌, ◌≤◌, ◌==◌, ◌∷◌, ◌&&◌, ◌||◌, not, is_some, nat_lt, Bool, true, false, if◌then◌else◌, List, [], length, Option, Some, None, Result, Ok, Err, IsOk, IfOk, IfErr, OnOk, OnErr, MatchOption, ⊤}
+use Rattle.disk.specs.State.{contents_of}
 use Rattle.events.specs.Limits.{most_pending}
 use Rattle.events.specs.declared.input.Event.{Event}
 use Rattle.events.specs.declared.input.Event.TheVariants.{Input as an_input}
 use Rattle.events.specs.declared.input.Input.{Input}
 use Rattle.events.specs.declared.step.Step.TheVariants.{Accept}
 use Rattle.c_numbers.specs.Numbers.{this_abi}
-use Rattle.journal.specs.Journals.{IsOpen}
 use Rattle.request_disk.specs.Requesting.{copy_of, request_state}
 use Rattle.mode_table.specs.declared.statuses.Cold.{Cold}
 use Rattle.unit_start.specs.Answers.{is_device}
-use Rattle.onboard.specs.Answers.{refusal_of, HasSpace}
+use Rattle.onboard.specs.Answers.{HasSpace}
 use Rattle.unit_start.specs.Events.{IsAhead}
 use Rattle.unit_start.specs.PowersUp.{IsAnswerTo}
 use Rattle.unit_start.specs.Releases.{nothing_released}
-use Rattle.onboard.specs.Progress.{progress_of, go_on}
+use Rattle.onboard.specs.Progress.{go_on}
 use Rattle.onboard.specs.declared.errors.AcceptError.{AcceptError}
 use Rattle.onboard.specs.declared.errors.AcceptError.TheVariants as an_accept
 use Rattle.unit_start.specs.declared.errors.OpenError.{OpenError}
 use Rattle.relayed_unit.specs.LifeNow.{DescribesLife}
-use Rattle.relayed_unit.specs.Relayed.{Relayed, Turns, list_of, requests_of, release_refusal, prepare_refusal, prepare_failed, wants_gate, IsFlushed, IsLeftBy, PoweredUp, WantsNothing}
+use Rattle.relayed_unit.specs.Relayed.{Relayed, list_of, requests_of, input_refusal, progress_in, release_refusal, prepare_refusal, prepare_failed, wants_gate, IsFlushed, IsLeftBy, StaysOpen, PoweredUp, WantsNothing}
 use Rattle.relayed_unit.specs.declared.errors.PrepareError.{PrepareError}
 use Rattle.relayed_unit.specs.declared.life_now.LifeNow.{LifeNow}
-use Rattle.ring.specs.Account.{Account}
 use Rattle.unit_calls.specs.Outputs.{description_of, last_of, AreHanded}
-use Rattle.unit_calls.specs.Requests.{IfElse, Wants}
+use Rattle.unit_calls.specs.Requests.{IfElse}
 use Rattle.unit_calls.specs.Statuses.{of_open, of_accept, of_prepare, of_release}
 use Rattle.unit_calls.specs.ColdNumbers.{cold_by}
 use Rattle.unit_calls.specs.declared.outputs.EtcsOutput.{EtcsOutput}
@@ -53,23 +51,18 @@ OnHandleInto AsTheyWere (Some before) (Some after) status So = So before after s
 -- what `RelayedUnit::accept` promises of an answer
 pub record Accepts (input : Input) (before after : Relayed) (reported : Result ⊤ AcceptError) : Type 0 where
   -- each refusal comes exactly for its cause
-  pub exact : IfSome before.moored (λ current. MatchOption
-      (refusal_of (before.failed || current.unit.journal.failed) (length current.unit.life.records) current.unit.life.moment input)
-      (IfErr reported (λ e. e ≡ an_accept.NoMemory)) (λ e. reported ≡ Err e))
+  pub exact : MatchOption (input_refusal before input) (IfErr reported (λ e. e ≡ an_accept.NoMemory)) (λ e. reported ≡ Err e)
   -- memory is never refused where there is space for what the input adds
-  pub quiet : IfSome before.moored (λ current.
-      refusal_of (before.failed || current.unit.journal.failed) (length current.unit.life.records) current.unit.life.moment input ≡ None →
-      HasSpace current.unit.life.state input → IsOk reported)
+  pub quiet : input_refusal before input ≡ None → HasSpace before.moored.unit.life.state input → IsOk reported
   -- a refusal changes nothing
   pub refused : OnErr reported (after ≡ before)
   -- the disk is as it was
-  pub copy : Turns before.moored after.moored (λ current next. (next.reading ≡ current.reading) × (next.unit.journal ≡ current.unit.journal))
+  pub copy : (after.moored.reading ≡ before.moored.reading) × (after.moored.unit.journal ≡ before.moored.unit.journal)
   -- what the next refusal goes by has gone on by this input
-  pub gone_on : OnOk reported (Turns before.moored after.moored (λ current next.
-      progress_of next.unit.journal next.unit.life ≡ go_on (progress_of current.unit.journal current.unit.life) (Accept input)))
+  pub gone_on : OnOk reported (progress_in after.moored ≡ go_on (progress_in before.moored) (Accept input))
   -- the event is then pending, after all that were accepted
-  pub accepted : OnOk reported (Turns before.moored after.moored (λ current next. (durable accepted : List Event) →
-      IsAhead durable accepted current.unit.life → IsAhead durable (an_input input ∷ accepted) next.unit.life))
+  pub accepted : OnOk reported ((durable accepted : List Event) → IsAhead durable accepted before.moored.unit.life
+      → IsAhead durable (an_input input ∷ accepted) after.moored.unit.life)
   -- what is held back stays, and so does what was said of the requests
   pub held : (after.outputs ≡ before.outputs) × (after.done ≡ before.done) × (after.failed ≡ before.failed)
 
@@ -82,11 +75,11 @@ Takes (Some input) before after status = (reported : Result ⊤ AcceptError) × 
 -- what `RelayedUnit::prepare` promises of an answer
 pub record IsPrepared (before after : Relayed) (reported : Result ⊤ PrepareError) : Type 0 where
   -- each refusal comes exactly for its cause
-  pub exact : IfSome before.moored (λ current. MatchOption (prepare_refusal before.failed current) (IsOk reported) (λ e. reported ≡ Err e))
+  pub exact : MatchOption (prepare_refusal before.failed before.moored) (IsOk reported) (λ e. reported ≡ Err e)
   -- whether the unit can't go on
   pub failed : after.failed ≡ (before.failed || prepare_failed reported)
   -- what was pending is flushed onto the disk, and held back
-  pub flushes : OnOk reported (Turns before.moored after.moored (IsFlushed after.outputs))
+  pub flushes : OnOk reported (IsFlushed after.outputs before.moored after.moored)
   -- none of the requests is done yet
   pub initial : OnOk reported (after.done ≡ 0)
   -- a refusal holds nothing more back, and what was said of the requests stays
@@ -94,15 +87,13 @@ pub record IsPrepared (before after : Relayed) (reported : Result ⊤ PrepareErr
   -- and it leaves the unit and the disk as they were, but that a sector may be wanted
   pub undone : IfErr reported (λ e. IsLeftBy e before.moored after.moored)
   -- over a copy of the medium none is
-  pub whole : IfSome before.moored (λ current. current.reading.disk.known ≡ None → wants_gate current ≡ false)
+  pub whole : before.moored.reading.disk.known ≡ None → wants_gate before.moored ≡ false
   -- and it stays one
-  pub known : Turns before.moored after.moored (λ current next. current.reading.disk.known ≡ None → next.reading.disk.known ≡ None)
+  pub known : before.moored.reading.disk.known ≡ None → after.moored.reading.disk.known ≡ None
   -- where nothing was pending there is no request
-  pub nothing : OnOk reported (Turns before.moored after.moored (λ current next.
-      length current.unit.life.records ≡ 0 → next.reading ≡ current.reading))
+  pub nothing : OnOk reported (length before.moored.unit.life.records ≡ 0 → after.moored.reading ≡ before.moored.reading)
   -- where something was pending no sector is wanted then
-  pub wants_nothing : OnOk reported (Turns before.moored after.moored (λ current next.
-      0 < length current.unit.life.records → WantsNothing next))
+  pub wants_nothing : OnOk reported (0 < length before.moored.unit.life.records → WantsNothing after.moored)
 
 abbrev pub Prepares : Opened → Opened → Status → Type 0
 Prepares before after status = (reported : Result ⊤ PrepareError) × (status ≡ of_prepare reported)
@@ -114,9 +105,7 @@ abbrev pub Says : ℕ → Opened → Opened → Status → Type 0
 Says count before after status = (taken : Bool)
     × ((taken ≡ true) ↔ ((count ≤ requests_of before.unit.moored) × (before.unit.done ≤ count)))
     × (status ≡ (if taken then a_status.Done else a_status.NoSuchRequest))
-    × (after.unit.done ≡ (if taken then count else before.unit.done))
-    × (after.unit.outputs ≡ before.unit.outputs) × (after.unit.moored ≡ before.unit.moored)
-    × (after.unit.failed ≡ before.unit.failed) × (after.last ≡ before.last)
+    × (after ≡ record before { unit = record before.unit { done = if taken then count else before.unit.done } })
 
 -- one more request is said to be done
 abbrev pub SaysNext : Opened → Opened → Status → Type 0
@@ -124,31 +113,25 @@ SaysNext before after status = Says (before.unit.done + 1) before after status
 
 -- the medium failed
 abbrev pub Fails : Opened → Opened → Status → Type 0
-Fails before after status = (status ≡ a_status.Done) × (after.unit.failed ≡ true)
-    × (after.unit.outputs ≡ before.unit.outputs) × (after.unit.moored ≡ before.unit.moored)
-    × (after.unit.done ≡ before.unit.done) × (after.last ≡ before.last)
+Fails before after status = (status ≡ a_status.Done) × (after ≡ record before { unit = record before.unit { failed = true } })
 
 -- what `RelayedUnit::release` promises where it releases
 pub record IsReleased (before after : Relayed) : Type 0 where
   -- nothing is held back any more, no request is left, and so none is done
   pub emptied : (after.outputs ≡ []) × (after.done ≡ 0) × (list_of after.moored ≡ [])
   -- no sector is wanted, where there were requests; else the unit and its disk are as they were
-  pub wants_nothing : Turns before.moored after.moored (λ current next. 0 < length current.reading.disk.requests → WantsNothing next)
-  pub idle : Turns before.moored after.moored (λ current next. length current.reading.disk.requests ≡ 0 → next ≡ current)
+  pub wants_nothing : 0 < length before.moored.reading.disk.requests → WantsNothing after.moored
+  pub idle : length before.moored.reading.disk.requests ≡ 0 → after.moored ≡ before.moored
   -- the medium failed no more than before
   pub failed : after.failed ≡ before.failed
   -- the unit is as it was: nothing was taken, and nothing was put on the disk
-  pub unit : Turns before.moored after.moored (λ current next. next.unit ≡ current.unit)
+  pub unit : after.moored.unit ≡ before.moored.unit
   -- the medium has as many sectors as before
-  pub sectors : Turns before.moored after.moored (λ current next. next.reading.disk.sectors ≡ current.reading.disk.sectors)
+  pub sectors : after.moored.reading.disk.sectors ≡ before.moored.reading.disk.sectors
   -- and as many of them are known
-  pub known : Turns before.moored after.moored (λ current next. next.reading.disk.known ≡ current.reading.disk.known)
+  pub known : after.moored.reading.disk.known ≡ before.moored.reading.disk.known
   -- no sector of the medium is open; the disk holds what it held, and the journal stands over it as before
-  pub stands : Turns before.moored after.moored (λ current next. IsSynced (request_state current.reading.disk)
-      × IsSynced (request_state next.reading.disk)
-      × ((s : ℕ) → contents_of (request_state next.reading.disk) s ≡ contents_of (request_state current.reading.disk) s)
-      × ((reported : Account) → IsOpen current.unit.journal reported (request_state current.reading.disk) →
-      IsOpen next.unit.journal reported (request_state next.reading.disk)))
+  pub stands : StaysOpen before.moored after.moored
 
 -- The caller's places for outputs and for their count, before a release and after it, and its status.
 pub record Handing : Type 0 where
@@ -179,8 +162,8 @@ Releases before after h = IfElse (nat_lt (length h.places) most_pending) (HandsN
 
 -- the same of a unit that hasn't failed: RequestsOwed where a sector has to be read first
 abbrev pub ReleasesAfterReads : Opened → Opened → Handing → Type 0
-ReleasesAfterReads before after h = (wanted : Option ℕ) × Wants before wanted
-    × IfElse (is_some wanted && not before.unit.failed) (HandsNothing a_status.RequestsOwed before after h) (Releases before after h)
+ReleasesAfterReads before after h = IfElse (is_some before.unit.moored.reading.disk.wanted && not before.unit.failed)
+    (HandsNothing a_status.RequestsOwed before after h) (Releases before after h)
 
 -- how far a unit is, as C sees it, where this is known of its life
 abbrev pub state_of : Opened → LifeNow → EtcsState
@@ -198,7 +181,7 @@ state_of opened life = record {
 
 -- how far a unit is, and what is known of its life
 abbrev pub DescribesState : Opened → EtcsState → Type 0
-DescribesState opened state = (life : LifeNow) × IfSome opened.unit.moored (λ current. DescribesLife current.unit.life life) × (state ≡ state_of opened life)
+DescribesState opened state = (life : LifeNow) × DescribesLife opened.unit.moored.unit.life life × (state ≡ state_of opened life)
 
 -- ---- opening and closing
 
@@ -206,14 +189,12 @@ DescribesState opened state = (life : LifeNow) × IfSome opened.unit.moored (λ 
 pub record IsPoweredUp (image : List ℕ) (cold : Cold) (reported : Result Relayed OpenError) : Type 0 where
   -- nothing is held back, and nothing is done
   pub fresh : IfOk reported (λ u. (u.outputs ≡ []) × (u.done ≡ 0) × (u.failed ≡ false))
-  -- there is a unit
-  pub there : IfOk reported (λ u. IsSome u.moored)
   -- it is powered up over the copy, which has the whole sectors of the bytes
-  pub powers_up : IfOk reported (λ u. IfSome u.moored (PoweredUp (request_state (copy_of image)) cold))
+  pub powers_up : IfOk reported (λ u. PoweredUp (request_state (copy_of image)) cold u.moored)
   -- the copy holds all of them
-  pub whole : IfOk reported (λ u. IfSome u.moored (λ current. current.reading.disk.known ≡ None))
+  pub whole : IfOk reported (λ u. u.moored.reading.disk.known ≡ None)
   -- no sector is wanted
-  pub wants_nothing : IfOk reported (λ u. IfSome u.moored WantsNothing)
+  pub wants_nothing : IfOk reported (λ u. WantsNothing u.moored)
   -- each refusal has its cause, and each cause its refusal
   pub answers : IsAnswerTo (length image / 512) (contents_of (request_state (copy_of image))) reported
   -- the copy never runs out of memory

@@ -1,3 +1,4 @@
+pub mod Asking
 pub mod ColdNumbers
 pub mod Contents
 pub mod Drivers

@@ -1,5 +1,5 @@
 -- A unit that was powered up, in whatever way (this project's profile).
-use Rattle.std.specs.Prelude.{◌≡◌, ℕ, List, [], false, IsSome, IfSome}
+use Rattle.std.specs.Prelude.{◌≡◌, ℕ, List, [], false}
 use Rattle.disk.specs.State.{State}
 use Rattle.disk.specs.Record.{state_of}
 use Rattle.events.specs.declared.input.Event.{Event}
@@ -15,10 +15,8 @@ before_any bytes sectors = state_of sectors 0 bytes [] []
 pub record IsUp (begin : State) (cold : Cold) (u : Relayed) : Type 0 where
   -- nothing is held back, and nothing is done
   pub fresh : (u.outputs ≡ []) × (u.done ≡ 0) × (u.failed ≡ false)
-  -- there is a unit
-  pub there : IsSome u.moored
   -- its disk has as many sectors
-  pub sectors : IfSome u.moored (λ current. current.reading.disk.sectors ≡ begin.sectors)
+  pub sectors : u.moored.reading.disk.sectors ≡ begin.sectors
   -- after each number of requests each image is one that a power-up may leave of what the disk held
   pub up : (whole_from : ℕ) (durable accepted : List Event) → IsReady whole_from durable accepted begin
-      → IfSome u.moored (Continued whole_from durable accepted cold begin)
+      → Continued whole_from durable accepted cold begin u.moored

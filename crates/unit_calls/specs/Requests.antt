@@ -1,5 +1,5 @@
 -- What C gets of a request (this project's profile). Requests are counted from the first of the list.
-use Rattle.std.specs.Prelude.{◌≡◌, ℕ, ◌+◌, ◌*◌, ◌<◌, ◌≤◌, nat_lt, Bool, true, false, List, [], ◌∷◌, ◌++◌, length, take, drop, Option, Some, None, IfSome, MatchOption}
+use Rattle.std.specs.Prelude.{◌≡◌, ℕ, ◌+◌, ◌*◌, ◌<◌, ◌≤◌, nat_lt, Bool, true, false, List, [], ◌∷◌, ◌++◌, length, take, drop, Option, Some, None, MatchOption}
 use Rattle.disk.specs.Record.{IsWithin}
 use Rattle.disk.specs.declared.record.Call.{Call}
 use Rattle.disk.specs.declared.record.Call.TheVariants.{Quiet, Synced, Written, Torn}
@@ -68,12 +68,7 @@ abbrev pub DescribesRequest : ℕ → Opened → Description → Type 0
 DescribesRequest index opened t = (found : Option Call) × IsAt index (list_of opened.unit.moored) found × IsWhole opened found
     × IsReportedAs (written_of opened.unit.moored) found t
 
--- the sector that a unit wants, None where it wants none
-abbrev pub Wants : Opened → Option ℕ → Type 0
-Wants opened wanted = IfSome opened.unit.moored (λ current. wanted ≡ current.reading.disk.wanted)
-
 -- what is to be done next is reported: to read the sector that is wanted, or else the first request of the list that isn't
 -- done
 abbrev pub DescribesNext : Opened → Description → Type 0
-DescribesNext opened t = (wanted : Option ℕ) × Wants opened wanted
-    × MatchOption wanted (DescribesRequest opened.unit.done opened t) (λ sector. Reads sector t)
+DescribesNext opened t = MatchOption opened.unit.moored.reading.disk.wanted (DescribesRequest opened.unit.done opened t) (λ sector. Reads sector t)

@@ -1,13 +1,11 @@
 -- Why the newest released output is what it is, and what a display shows of it, as C gets it (this project's profile).
 -- Places and distances are centimetres, speeds metres per hour, times milliseconds; lists of events have the newest
 -- first.
-use Rattle.std.specs.Prelude.{◌≡◌, ℕ, ◌-◌, ℤ, int_lt, ◌-ℤ◌, Bool, true, false, if◌then◌else◌, List, [], ◌∷◌, map, length, Option, Some, None, is_some, IfSome}
+use Rattle.std.specs.Prelude.{◌≡◌, ℕ, ◌-◌, ℤ, int_lt, ◌-ℤ◌, Bool, true, false, if◌then◌else◌, List, [], ◌∷◌, map, length, Option, Some, None, is_some}
 use Rattle.std.specs.Int.RustNames.{unsigned_abs}
 use Rattle.braking.specs.declared.target.Target.{Target}
 use Rattle.driver.specs.declared.override_left.OverrideLeft.{OverrideLeft}
-use Rattle.events.specs.declared.input.Event.{Event}
-use Rattle.c_numbers.specs.Numbers.{or_zero, flag_of}
-use Rattle.c_numbers.specs.Numbers.{place_or_zero, limit_number}
+use Rattle.c_numbers.specs.Numbers.{or_zero, place_or_zero, flag_of, limit_number}
 use Rattle.kernel.specs.Brake.{causes_of}
 use Rattle.kernel.specs.Causes.{all_causes, is_among}
 use Rattle.kernel.specs.Lives.{life_of}
@@ -22,16 +20,12 @@ use Rattle.speed_supervision.specs.declared.cause.LimitCause.TheVariants as a_li
 use Rattle.speed_supervision.specs.declared.cause.SpeedCause.{SpeedCause}
 use Rattle.speed_supervision.specs.declared.cause.SpeedCause.TheVariants as a_speed
 use Rattle.mode_control.specs.Life.{Life}
-use Rattle.unit_start.specs.Events.{IsAhead}
 use Rattle.reasons.specs.LimitTexts.{limit_reported}
-use Rattle.relayed_unit.specs.Relayed.{is_unreleased}
-use Rattle.relayed_unit.specs.declared.moored.Moored.{Moored}
 use Rattle.speed_supervision.specs.Limit.{limit}
+use Rattle.unit_calls.specs.Asking.{Asks}
 use Rattle.unit_calls.specs.Outputs.{description_of}
-use Rattle.unit_calls.specs.Requests.{IfElse}
 use Rattle.unit_calls.specs.declared.handle.Opened.{Opened}
 use Rattle.unit_calls.specs.declared.status.Status.{Status}
-use Rattle.unit_calls.specs.declared.status.Status.TheVariants as a_status
 use Rattle.unit_calls.specs.declared.why.EtcsUnitWhy.{EtcsUnitWhy}
 use Rattle.unit_calls.specs.declared.why.Reported.{Reported}
 
@@ -154,12 +148,6 @@ abbrev pub DescribesLifeWhy : ℕ → Life → EtcsUnitWhy → Type 0
 DescribesLifeWhy event life reported = (decides : LimitCause) × IsLimitCause life (limit life) decides
     × (reported ≡ why_with (reported_in event life decides))
 
--- what is reported is of the newest event, and it is released: all accepted events are durable
-abbrev pub IsOfReleased : Moored → EtcsUnitWhy → Type 0
-IsOfReleased current reported = (durable accepted : List Event) → IsAhead durable accepted current.unit.life
-    → (durable ≡ accepted) × DescribesLifeWhy (length accepted - 1) (life_of accepted) reported
-
--- the newest event is reported of; NotReleased exactly where it isn't released yet, and then nothing is written
+-- the newest event is reported of
 abbrev pub AsksUnitWhy : Opened → EtcsUnitWhy → EtcsUnitWhy → Status → Type 0
-AsksUnitWhy opened old new status = IfSome opened.unit.moored (λ current. IfElse (is_unreleased current)
-    ((status ≡ a_status.NotReleased) × (new ≡ old)) ((status ≡ a_status.Done) × IsOfReleased current new))
+AsksUnitWhy = Asks (λ events reported. DescribesLifeWhy (length events - 1) (life_of events) reported)

@@ -83,6 +83,13 @@ fn acceptances(state: &State) -> [u8; 16]
     ]
 }
 
+// 1 where it is so.
+fn flag(is_so: bool) -> u8
+    ensures { result ≡ flag_of is_so }
+{
+    u8::from(is_so)
+}
+
 /// What the driver entered, and which actions would be accepted, after the events that a state represents.
 pub fn driver_reported(state: &State) -> EtcsUnitDriver
     ensures { (events : List Event) → Knows state.now events → DescribesDriver events result }
@@ -100,13 +107,13 @@ pub fn driver_reported(state: &State) -> EtcsUnitDriver
         accepts_identity: accepts_entry,
         accepts_running_number: accepts_entry,
         accepts_train_data: accepts_entry,
-        is_revalidated: u8::from(given.is_whole()),
+        is_revalidated: flag(given.is_whole()),
         identity_status: status_number(&entered.identity),
         running_number_status: status_number(&entered.running_number),
         train_status: status_number(&entered.train_data),
-        gave_identity: u8::from(given.identity),
-        gave_level: u8::from(given.level),
-        gave_train: u8::from(given.train_data),
-        has_left: u8::from(given.shunting || given.started),
+        gave_identity: flag(given.identity),
+        gave_level: flag(given.level),
+        gave_train: flag(given.train_data),
+        has_left: flag(given.shunting || given.started),
     }
 }

@@ -16,11 +16,10 @@ macro_rules! on_unit {
     };
 }
 
+mod asking;
 mod call_values;
 mod driver_values;
-mod driving;
 mod events_in;
-mod explaining;
 mod formatting;
 mod handle;
 mod held;
@@ -35,14 +34,13 @@ mod status;
 mod version;
 mod why;
 
+pub use asking::{unit_driver_call, unit_why_call};
 pub use call_values::{EtcsRequest, cold_of_number};
 pub use driver_values::EtcsUnitDriver;
-pub use driving::unit_driver_call;
 pub use events_in::{
     action_call, clock_call, identity_call, odometer_call, running_number_call, telegram_call,
     train_data_call,
 };
-pub use explaining::unit_why_call;
 pub use formatting::format_request_call;
 pub use handle::{Content, EtcsUnit, Opened};
 pub use inputs::EtcsTrainData;

@@ -1,4 +1,4 @@
-use Rattle.std.proofs.Common.{refl, ◌∙◌, ap, subst}
+use Rattle.std.proofs.Common.{rules, ◌∙◌, ap, subst}
 use Rattle.c_numbers.specs.KeptItems.{DescribesKept}
 use Rattle.events.specs.declared.kept.Kept.{Kept}
 use Rattle.events.specs.declared.output.Output.{Output}
@@ -11,6 +11,7 @@ pub returns : goal.returns
 returns c = λ events knows.
     let life = life_of events in
     let entry = c.acceptance-accepts_entry.ensures events knows in
+    let driver = c.driver-driver.ensures life knows.life_is in
     record {
       kept = subst (λ (k : Kept). DescribesKept k c.kept_reported.result) (c.kept.ensures.lists events knows) c.kept_reported.ensures;
       speed = c.get.ensures.value ∙ ap (λ (m : Motion). m.speed) (c.motion.ensures life knows.life_is);
@@ -19,5 +20,12 @@ returns c = λ events knows.
       identity = λ text. entry;
       running_number = λ number. entry;
       train_data = λ train. entry;
-      revalidated = todo;
+      revalidated = search (rules, driver);
+      identity_status = search (rules, driver);
+      running_number_status = search (rules, driver);
+      train_status = search (rules, driver);
+      gave_identity = search (rules, driver);
+      gave_level = search (rules, driver);
+      gave_train = search (rules, driver);
+      has_left = search (rules, driver);
     }

@@ -468,7 +468,7 @@ class Calls(OverTheLibrary):
         """By hand: what was entered, and what is accepted in Stand By, in Staff Responsible and after a power-up of a train that was moved."""
         national = (30_000, 40_000, 30_000, 100_000, 40_000, 200, 0, 30_000, 20_000, 60_000, None)
         nothing = Kept(False, None, None, None, (Datum.UNKNOWN, None), (Datum.UNKNOWN, None), national, ())
-        unknown = (*[Datum.UNKNOWN] * 3, *[False] * 4)
+        unknown = (Datum.UNKNOWN, Datum.UNKNOWN, Datum.UNKNOWN, False, False, False, False)
         given = (Datum.VALID, Datum.UNKNOWN, Datum.VALID, True, True, True)
         levels = {Action.CHOOSE_LEVEL_0, Action.CHOOSE_LEVEL_1}
         confirms = {Action.CONFIRM_IDENTITY, Action.CONFIRM_TRAIN_DATA, Action.CONFIRM_LEVEL}

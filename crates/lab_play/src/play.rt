@@ -287,11 +287,11 @@ fn unread_line<R: Eprint>(rt: &R, path: &str, number: u64, error: &io::Error) ->
 }
 
 // Plays what one of the files holds. The error is that of a write.
-fn play_one_of<R: Files<File = File> + Input + AllocGlobal + Eprint, W: Write>(
+fn play_one_of<'a, R: Files<File = File> + Input + AllocGlobal + Eprint, W: Write>(
     rt: &R,
-    args: PlayArgs<'_>,
+    args: PlayArgs<'a>,
     outputs: Outputs,
-    file: &str,
+    file: &'a str,
     totals: Totals,
     out: &mut W,
 ) -> Result<Totals, Status> {

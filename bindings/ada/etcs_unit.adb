@@ -136,7 +136,7 @@ package body Etcs_Unit is
 
    procedure Close (To : in out Unit) is
    begin
-      if Is_Open (To) or else To.Handle.Is_Under_Way /= 0 then
+      if Is_Open (To) then
          Check (Etcs_C.Unit_Close (To.Handle'Address));
       end if;
    end Close;

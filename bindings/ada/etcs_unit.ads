@@ -123,7 +123,7 @@ private
    --  The text of C at an address: it ends with a zero.
 
    type Unit (On : not null access Medium'Class) is new Ada.Finalization.Limited_Controlled with record
-      Handle : aliased Etcs_C.Unit_Struct := (System.Null_Address, 0, System.Null_Address, 0);
+      Handle : aliased Etcs_C.Unit_Struct := (System.Null_Address, 0);
    end record;
    overriding procedure Finalize (To : in out Unit);
 

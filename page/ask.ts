@@ -8,7 +8,7 @@ import {Day, utcText} from "./day";
 import {at, make, say, show} from "./dom";
 import {EventView} from "./eventview";
 import {Findings, offerToSave} from "./evidence";
-import {identityIn, identityText, Named, strangers} from "./identity";
+import {identityIn, identityText, strangers} from "./identity";
 import {AskedImage, Given, namedBy, namedByMarks} from "./image";
 import {ImageList} from "./imagelist";
 import {Lists} from "./lists";
@@ -18,6 +18,7 @@ import {Notes} from "./notes";
 import {drawRing, legendOf} from "./ring";
 import {count, keptTexts} from "./shown";
 import {BySlots, imageSize} from "./slots";
+import {Strangers, strangersText} from "./strangers";
 import {choose} from "./tabs";
 import {DAY, SAY, STATUSES} from "./texts";
 import {Viewer} from "./viewer";
@@ -34,8 +35,7 @@ export class Ask {
     private linking = 0;
     /** The link that this page wrote itself, for the image before. */
     private ownLink = "";
-    /** What waits until it is said that a stranger is wanted. */
-    private waiting: (() => void)[] = [];
+    private readonly strangers = new Strangers();
     private readonly day = new Day(() => this.reckon());
     private readonly event: EventView;
     private readonly lists = new Lists(this.day, event => this.chooseEvent(event));
@@ -66,8 +66,6 @@ export class Ask {
                 if (index !== null) this.choose(index);
             });
         at("print").addEventListener("click", () => print());
-        at("strangers-on").addEventListener("click", () => this.answer(true));
-        at("strangers-out").addEventListener("click", () => this.answer(false));
         offerToSave(() => this.evidence());
         addEventListener("hashchange", () => this.followHash());
     }
@@ -119,7 +117,8 @@ export class Ask {
                 identity: typeof whose === "string" ? null : whose
             };
             const others = this.images.flatMap(({ named }) => named);
-            this.offer([...namedBy(name, given.identity), ...namedByMarks(given.marks)], others, () => this.add(given));
+            const some = [...namedBy(name, given.identity), ...namedByMarks(given.marks)];
+            this.strangers.offer(some, others, () => this.add(given));
         }
     }
 
@@ -127,7 +126,7 @@ export class Ask {
         const marks = await marksIn(file);
         // (the marks that these replace don't count)
         const others = this.images.flatMap(one => one === image ? one.namedByIdentity : one.named);
-        this.offer(namedByMarks(marks), others, () => {
+        this.strangers.offer(namedByMarks(marks), others, () => {
             image.marks = marks;
             image.reckon(this.day.drift);
             this.showDay(image);
@@ -141,23 +140,6 @@ export class Ask {
         const found = strangers(image.named, this.images.filter(one => one !== image).flatMap(({ named }) => named));
         if (found) this.refuse(strangersText(found));
         this.showFacts();
-    }
-
-    /** Takes what is handed over, unless it is of another unit or vehicle than others or itself: then it asks. */
-    private offer(some: Named[], others: Named[], act: () => void): void {
-        const found = strangers(some, others);
-        if (!found) return act();
-        this.waiting.push(act);
-        say("strangers-said", [at("strangers-said").textContent, strangersText(found)].filter(text => text).join(" "));
-        at("strangers").hidden = false;
-    }
-
-    private answer(isWanted: boolean): void {
-        const { waiting } = this;
-        this.waiting = [];
-        at("strangers").hidden = true;
-        say("strangers-said", "");
-        for (const act of isWanted ? waiting : []) act();
     }
 
     /** Asks an image instead of all others. */
@@ -406,7 +388,3 @@ export class Ask {
 }
 
 function whyText(status: number): string { return STATUSES[status] ?? `status ${status}`; }
-
-function strangersText([one, other]: [Named, Named]): string {
-    return SAY.strangers(one.name, identityText(one.whose), other.name, identityText(other.whose));
-}

@@ -50,7 +50,10 @@ function areStrangers(one: Identity, other: Identity): boolean {
     });
 }
 
-/** The first of some that is of another unit or vehicle than one of others, or than one before it; null where all are of one. */
+/**
+ * The first of some that is of another unit or vehicle than one of others, or than one before it; null where all are
+ * of one.
+ */
 export function strangers(some: Named[], others: Named[]): [Named, Named]|null {
     for (const [n, one] of some.entries()) {
         const other = [...others, ...some.slice(0, n)].find(({ whose }) => areStrangers(one.whose, whose));

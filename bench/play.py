@@ -57,10 +57,10 @@ def calls(step):
 def scenario(numbers):
     steps = [{"telegram": random_lives.authority(numbers, 2)}, {"driver": [1, f"IC {numbers.randrange(1000)}"]},
              *({"driver": entry} for entry in random_lives.ENTRIES), {"driver": [6]}]
-    count, moment = sum(map(events, steps)), 0
-    while count < EVENTS:
-        moment += numbers.choice((500, 1_000, 5_000))
-        step = random_lives.step(numbers, moment)
+    count = sum(map(events, steps))
+    for step in map(json.loads, random_lives.steps(numbers)):
+        if count == EVENTS:
+            break
         if count + events(step) <= EVENTS:
             steps.append(step)
             count += events(step)

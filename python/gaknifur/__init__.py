@@ -17,15 +17,19 @@ if TYPE_CHECKING:
     import pandas as pd
 
     from .lives import replay, why
+    from .playing import play
 
-__all__ = ["brake_causes", "demands", "journal", "replay", "why"]
+__all__ = ["brake_causes", "demands", "journal", "play", "replay", "why"]
 
 
 def __getattr__(name: str) -> Any:
-    """Loads `replay` and `why` when they are first used, so that the commands of ./lab don't wait for the library."""
+    """Loads `play`, `replay` and `why` when they are first used, so that the commands of ./lab don't wait for them."""
     if name in ("replay", "why"):
         from . import lives
         return getattr(lives, name)
+    if name == "play":
+        from .playing import play
+        return play
     raise AttributeError(f"module {__name__!r} has no attribute {name!r}")
 
 

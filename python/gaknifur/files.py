@@ -77,7 +77,7 @@ def holding(name: str, beginning: bytes, mark: bytes) -> Kind:
 TABLE = beginning("a table", b"block,event,life,stretch,kind,time_ms,mode,", b"source,slot,byte,block,event,life,kind,")
 DRIVE_TABLE = beginning("a table of a drive", b"time_ms,first_event,event,place_cm,speed_m_per_h,")
 SWEEP_TABLE = beginning("a table of a sweep", b"point,")
-CAMPAIGN_TABLE = beginning("a table of a campaign", b"name,job_sha256,kind,ended,image_sha256,")
+CAMPAIGN_TABLE = beginning("a table of a campaign", b"name,job_sha256,kind,ended,written_sha256,")
 WORKBOOK = Kind("a workbook", lambda data: data.startswith(b"PK") and is_workbook(data), is_whole=True)
 TIMELINE = beginning("a timeline", b"datetime,timestamp_desc,message,timestamp,uncertainty_ms,image,", b'{"datetime": ')
 REPORT = holding("a report", b"<!DOCTYPE html>\n", b'<meta name="generator" content="%s">' % MAKER.encode())

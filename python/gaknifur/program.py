@@ -21,6 +21,7 @@ from .journal import layout
 WHOLE, REFUSED, WRONG_WORDS, DEVICE, NOT_WHOLE = range(5)
 FOUND = NOT_WHOLE
 """The exit statuses, which mean the same in each program (docs/reference/refusals.md, Exit statuses). 4 is a finding, in an image or elsewhere."""
+PROCESSORS = os.cpu_count() or 1
 MEMORY, MANY, MOST_COPIED = Path("/dev/shm"), 64, 256
 """The folder that Linux keeps in memory; how many images have to fit into it before it is used for one; and the greatest number
 of slots of an image that is copied."""

@@ -20,7 +20,7 @@ from unittest.mock import patch
 from gaknifur.cli import campaign_commands
 from gaknifur.etcs_run import output_of, read_lines
 from gaknifur.journal.reading import Json
-from gaknifur.play import Died
+from gaknifur.playing import Died
 from gaknifur.program import Failed
 from gaknifur.simulation import campaign, campaign_jobs, campaign_table, dask_scheduler, random_lives
 from gaknifur.simulation.campaign import MOST_AT_ONCE, Batches, Job, Row
@@ -104,7 +104,7 @@ class Folders(InFolder):
 
     def test_a_folder_of_nothing_is_refused(self) -> None:
         (empty := self.folder / "empty").mkdir()
-        given = SimpleNamespace(folder=empty, out=self.out, slots=64, random=3, seed=1, csv=None, scheduler=None, workers=1, replay=False)
+        given = SimpleNamespace(folder=empty, out=self.out, slots=64, random=3, seed=1, csv=None, scheduler=None, jobs=1, replay=False)
         with patch.object(campaign_table, "settings_of", dict), self.assertRaisesRegex(Failed, "empty: contains no test case and no scenario"):
             campaign_commands.play_campaign(given, lambda what, done, whole: None)
         self.assertFalse(self.out.exists())
@@ -117,12 +117,12 @@ class Folders(InFolder):
                 take([campaign_jobs.play(job, self.folder) if job.unread else campaign.row_without(job, "carried out")])
             return 0
 
-        given = SimpleNamespace(folder=self.folder, out=self.out, slots=64, random=0, seed=1, csv=None, scheduler=None, workers=1, replay=False)
+        given = SimpleNamespace(folder=self.folder, out=self.out, slots=64, random=0, seed=1, csv=None, scheduler=None, jobs=1, replay=False)
         with patch.object(campaign, "here", here), patch.object(campaign_table, "settings_of", dict), redirect_stdout(printed := io.StringIO()):
             self.assertEqual(campaign_commands.play_campaign(given, lambda what, done, whole: None), 4)
-        rows = campaign_table.rows_of(self.out)
+        rows = list(campaign_table.rows_of(self.out))
         self.assertEqual(len(rows), len(self.names))
-        self.assertEqual({row["name"]: row["ended"] for row in rows.values() if row["ended"] != "carried out"},
+        self.assertEqual({row["name"]: row["ended"] for row in rows if row["ended"] != "carried out"},
                          {"0/b.json": "failed: can't be read: No such file or directory"})
         self.assertIn("\n  0/b.json: failed: can't be read: No such file or directory\n", printed.getvalue())
 

@@ -318,7 +318,7 @@ class Databases(Room):
             path = self.room / name
             database.open_database(path).close()
             campaign_table.Table(path.with_name(f"{name}.c"), {"a": "b"}).close()
-            self.assertEqual(campaign_table.rows_of(path.with_name(f"{name}.c")), {})
+            self.assertEqual(list(campaign_table.rows_of(path.with_name(f"{name}.c"))), [])
             campaign_table.write_csv(path.with_name(f"{name}.c"), Out(path.with_name(f"{name}.csv"), files.CAMPAIGN_TABLE))
             self.assertTrue(files.CAMPAIGN_TABLE.is_own(path.with_name(f"{name}.csv").read_bytes()))
         self.assertEqual(self.names(), sorted(name + end for name in NAMES for end in ("", ".c", ".csv")))
@@ -338,7 +338,7 @@ class Databases(Room):
                 self.assertRaises(Failed, database.open_database, self.room / name)
             if name != "campaign":
                 self.assertRaises(Failed, campaign_table.Table, self.room / name, {})
-                self.assertRaises(Failed, campaign_table.rows_of, self.room / name)
+                self.assertRaises(Failed, next, campaign_table.rows_of(self.room / name))
         self.assertEqual({name: (self.room / name).read_bytes() for name in self.names()}, before)
 
     def test_many_at_once(self) -> None:

@@ -1,4 +1,5 @@
 """Scenarios that run together: what the program prints, the images that it writes, and a program that dies or can't write."""
+import hashlib
 import json
 import os
 import pickle
@@ -9,10 +10,10 @@ from collections.abc import Iterable, Iterator
 from pathlib import Path
 from unittest.mock import patch
 
-from gaknifur import play
+from gaknifur import playing
 from gaknifur.journal import layout, played_image
 from gaknifur.journal.reading import Json
-from gaknifur.play import Died, Result
+from gaknifur.playing import Died, Result
 from gaknifur.program import Failed
 from gaknifur.simulation import campaign_jobs
 from gaknifur.simulation.campaign import Job, Row
@@ -62,7 +63,7 @@ class Images(unittest.TestCase):
             "block": 3, "byte": layout.slot_at(3) + 1024, "event": 2, "life": 1, "kind": "odometer", "time_ms": 9, "mode": "TR", "level": None,
             "brake": "emergency", "indications": ["trip"], "place_cm": -7, "uncertainty_cm": 500, "min_safe_front_cm": -507, "max_safe_front_cm": 493,
             "limit_m_per_h": 40_000, "movement_cm": -5, "speed_m_per_h": 7})
-        self.assertEqual([one.place_cm for one in played_image.answers(image_of(*blocks_of("FS", "TR")))], [0, 100, 200])
+        self.assertEqual(played_image.answers(image_of(*blocks_of("FS", "TR"))).place_cm, (0, 100, 200))
         self.assertEqual(played_image.records(played_image.empty(SLOTS)), [])
 
     def test_what_is_no_such_image(self) -> None:
@@ -81,9 +82,9 @@ class Lines(unittest.TestCase):
     """Scenarios on one line."""
 
     def test_what_is_a_json_object(self) -> None:
-        self.assertEqual(play.on_a_line(b'{"a":\n\t[1],\r\n"b":"\\n"}'), b'{"a":  [1],  "b":"\\n"}')
-        for text in (b"", b"[]", b"{", b'{"a":"\n"}', b'{"a":NaN}', b'{"a":1}}', b'{"a":1},{}', b"\xff{}", b'{"a":' + b"[" * 100_000, b"{%b}" % (b" " * play.LONGEST)):
-            self.assertIsNone(play.on_a_line(text), text[:20])
+        self.assertEqual(playing.on_a_line(b'{"a":\n\t[1],\r\n"b":"\\n"}'), b'{"a":  [1],  "b":"\\n"}')
+        for text in (b"", b"[]", b"{", b'{"a":"\n"}', b'{"a":NaN}', b'{"a":1}}', b'{"a":1},{}', b"\xff{}", b'{"a":' + b"[" * 100_000, b"{%b}" % (b" " * playing.LONGEST)):
+            self.assertIsNone(playing.on_a_line(text), text[:20])
 
 
 PROGRAM = """#!/usr/bin/python3
@@ -115,7 +116,7 @@ class Programs(unittest.TestCase):
             path.chmod(0o755)
             with patch.dict(os.environ, GAKNIFUR_ETCS_LAB=str(path)):
                 try:
-                    for _ in play.play({"scenario": one} for one in scenarios):
+                    for _ in playing.play({"scenario": one} for one in scenarios):
                         count += 1
                 except Failed as failed:
                     return count, f"{type(failed).__name__} {failed.status}: {failed}"
@@ -133,7 +134,8 @@ class Rows(unittest.TestCase):
 
     def rows(self, results: Iterable[tuple[Result, bytes] | Exception], count: int) -> list[Row]:
         """The rows, where the program has these results."""
-        def play_images(scenarios: Iterable[tuple[bytes, int]], folder: Path) -> Iterator[tuple[Result, bytes]]:
+        def play_images(scenarios: Iterable[tuple[bytes, int]], folder: Path, outputs: str) -> Iterator[tuple[Result, bytes]]:
+            self.assertEqual(outputs, "changes")
             self.assertEqual(list(scenarios), [(b'{"number":%d}' % number, SLOTS) for number in range(count)])
             for one in results:
                 if isinstance(one, Exception):
@@ -145,8 +147,8 @@ class Rows(unittest.TestCase):
 
     def test_values_and_an_altered_output(self) -> None:
         image = image_of(*blocks_of("FS", "TR"))
-        good = {"status": "done", "outputs": [output(1, "FS"), output(2, "TR")]}
-        altered = {"status": "stopped", "number": 7, "name": "ClockFell", "outputs": [output(1, "FS"), output(2, "FS")]}
+        good = {"status": "done", "events": 2, "outputs": [output(1, "FS"), output(2, "TR")]}
+        altered = {"status": "stopped", "number": 7, "name": "ClockFell", "events": 2, "outputs": [output(1, "FS")]}
         refused = {"status": "refused", "fault": 2, "name": "Shape"}
         rows = self.rows([(good, image), (altered, image), (refused, b""), (good, image[:-1])], 4)
         self.assertEqual([(row["name"], row["ended"], row["events"], row["trips"], row["place_cm"], row["sound"]) for row in rows], [
@@ -155,10 +157,36 @@ class Rows(unittest.TestCase):
         self.assertEqual(rows[1]["first_missed"].splitlines()[:2],
                          ["expected: the output of its record: event 2 mode TR level - brake emergency limit 40000 ind 8",
                           "found:    this output was released: event 2 mode FS level - brake emergency limit 40000 ind 8"])
-        self.assertEqual(rows[2]["image_sha256"], played_image.sha256(played_image.empty(SLOTS), SLOTS))
+        self.assertEqual(rows[2]["written_sha256"], hashlib.sha256(layout.first_sector(SLOTS)).hexdigest())
+
+    def test_outputs_between_changes(self) -> None:
+        """Each output is compared, also one that isn't given since it is like the one before, and the first ones of a ring that was written over."""
+        events = [[record_bytes(at, "clock", mode, 0)] for at, mode in enumerate(("FS", "FS", "TR", "TR", "FS"), 1)]
+        outputs = [output(1, "FS"), output(3, "TR"), output(5, "FS")]
+        for first, image in ((0, image_of(blocks_of()[0], *events, slots=8)), (2, image_of(blocks_of()[0], *events))):
+            answers = played_image.answers(image)
+            self.assertEqual(answers.event[0], first)
+            campaign_jobs.check_outputs(outputs, 5, answers, image)
+            for at in range(len(outputs)):
+                altered = [one | ({"limit_m_per_h": 7} if number == at else {}) for number, one in enumerate(outputs)]
+                with self.assertRaisesRegex(Missed, "the output of its record: event [1-5] mode (FS|TR) .*\n.* limit 7 "):
+                    campaign_jobs.check_outputs(altered, 5, answers, image)
+            with self.assertRaisesRegex(Missed, "the output of its record: event 5 mode FS"):
+                campaign_jobs.check_outputs(outputs[:-1], 5, answers, image)
+            for count in (4, 6):
+                with self.assertRaisesRegex(Missed, f"newest record of event {count}"):
+                    campaign_jobs.check_outputs(outputs, count, answers, image)
+
+    def test_what_is_written(self) -> None:
+        whole = image_of(*blocks_of("FS", "TR"), slots=8)
+        self.assertEqual(len(played_image.written(whole)), layout.slot_at(3))
+        self.assertEqual(played_image.sha256(whole), hashlib.sha256(whole[:layout.slot_at(3)]).hexdigest())
+        self.assertEqual(len(played_image.written(played_image.empty(8))), layout.SECTOR)
+        for at in (layout.slot_at(3), len(whole) - 1):
+            self.assertEqual(len(played_image.written(whole[:at] + b"\1" + whole[at + 1:])), layout.slot_at(4 if at < layout.slot_at(4) else 8))
 
     def test_a_full_disk_and_a_dead_program(self) -> None:
-        good = {"status": "done", "outputs": [output(1, "FS"), output(2, "TR")]}, image_of(*blocks_of("FS", "TR"))
+        good = {"status": "done", "events": 2, "outputs": [output(1, "FS"), output(2, "TR")]}, image_of(*blocks_of("FS", "TR"))
         rows = self.rows([good, Failed("2.image: can't be written", 3)], 3)
         self.assertEqual([row["ended"] for row in rows], ["carried out", *["failed: 2.image: can't be written"] * 2])
         with self.assertRaises(Died):

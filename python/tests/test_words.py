@@ -66,8 +66,8 @@ class Order(unittest.TestCase):
     """Options may come before, between and after the arguments."""
 
     def test_of_options(self) -> None:
-        for words in ("campaign F --workers 1 O.db", "campaign --workers 1 F O.db", "campaign F O.db --workers 1"):
-            self.assertEqual([params(words)[name] for name in ("folder", "out", "workers")], [Path("F"), Path("O.db"), 1])
+        for words in ("campaign F --jobs 1 O.db", "campaign --jobs 1 F O.db", "campaign F O.db --workers 1"):
+            self.assertEqual([params(words)[name] for name in ("folder", "out", "jobs")], [Path("F"), Path("O.db"), 1])
         self.assertEqual(params("campaign --random 3 O.db")["folder"], None)
         self.assertEqual([params("table I --all O.csv")[name] for name in ("image", "out", "other_blocks")], [Path("I"), Path("O.csv"), True])
         self.assertEqual([params("database A --all B O.db")[name] for name in ("images", "out")], [(Path("A"), Path("B")), Path("O.db")])
@@ -77,6 +77,15 @@ class Order(unittest.TestCase):
     def test_defaults(self) -> None:
         self.assertEqual({name: params("check I")[name] for name in asdict(Thresholds())}, asdict(Thresholds()))
         self.assertEqual(params("against I unit")["answer_within"], WITHIN_S)
+
+    def test_jobs(self) -> None:
+        """The number of processes has one name in all commands, and the former one is understood."""
+        for words in ("campaign O.db", "coverage F", "hazards", "search F", "sweep F", "test F"):
+            found = [params(f"{words} {more}")["jobs"] for more in ("", "--jobs 3", "--workers 3")]
+            self.assertEqual(found, [os.cpu_count(), 3, 3])
+            with contextlib.redirect_stderr(io.StringIO()) as errors:
+                self.assertEqual(main([*words.split(), "--jobs", "0"]), 2)
+            self.assertRegex(errors.getvalue(), "invalid value for '--jobs'.*: has to be 1 to 256")
 
     def test_wrong_words(self) -> None:
         for words in ("campaign F O.db more", "campaign --random 3", "table", "table I --al O.csv", "table I --all --damaged", "nothing I", "--all table I",

@@ -384,7 +384,7 @@ class Plays(Compared):
     def from_python(self, cases):
         """The same by gaknifur.play, of which one that nobody reads to its end leaves no process."""
         os.environ["GAKNIFUR_ETCS_LAB"] = str(self.lab)
-        from gaknifur.play import play
+        from gaknifur import play
         from gaknifur.program import Failed
         for number, (case, one) in enumerate(zip(cases, play((case.members() for case in cases), outputs="changes"), strict=True)):
             self.same(f"python, {case.name}", one, case.wanted(case.name, number + 1, "changes", None))

@@ -88,7 +88,7 @@ def by_two_workers(room, lives):
 def interrupted(room, lives):
     """The lives by processes here, interrupted once some rows are there, and then gone on with."""
     out = room / "interrupted.db"
-    words = [TOP / "lab", "campaign", str(out), "--random", str(lives), "--seed", "7", "--workers", "2"]
+    words = [TOP / "lab", "campaign", str(out), "--random", str(lives), "--seed", "7", "--jobs", "2"]
     # (a shell without job control has what it starts in the background ignore interrupts)
     playing = subprocess.Popen(words, stdin=subprocess.DEVNULL, stdout=subprocess.PIPE, stderr=subprocess.PIPE, text=True,
                                start_new_session=True, preexec_fn=lambda: signal.signal(signal.SIGINT, signal.SIG_DFL))
@@ -185,13 +185,13 @@ def stand_in(room, name, how):
 
 def stand_ins(room, whole, lives):
     """A program that dies once: nothing is lost, and it is reported. One that alters an output: a row isn't sound."""
-    words = ("campaign", "--random", lives, "--seed", "7", "--workers", "2")
+    words = ("campaign", "--random", lives, "--seed", "7", "--jobs", "2")
     done = lab(*words, room / "dying.db", **stand_in(room, "dying", DYING))
     unless(done.returncode == 0 and done.stdout == f"{lives} rows, {lives} of them played now; 0 not sound\n1 batches were lost with their process, and "
            "played again\n", f"a program that dies: {done.stdout}{done.stderr}")
     done = lab("compare", whole, room / "dying.db")
     unless(done.returncode == 0, f"a program that dies: {done.stdout}{done.stderr}")
-    done = lab("campaign", "--random", "200", "--workers", "1", room / "altering.db", **stand_in(room, "altering", ALTERING))
+    done = lab("campaign", "--random", "200", "--jobs", "1", room / "altering.db", **stand_in(room, "altering", ALTERING))
     unless(done.returncode == 4 and " not sound\n" in done.stdout and "; expected: the output of its record: event " in done.stdout,
            f"an altered output: {done.stdout}{done.stderr}")
 
@@ -199,7 +199,7 @@ def stand_ins(room, whole, lives):
 def worker_killed(room, whole, lives):
     """A process that plays is killed: nothing is lost, and it is reported."""
     out = room / "killed.db"
-    playing = subprocess.Popen([TOP / "lab", "campaign", out, "--random", str(lives), "--seed", "7", "--workers", "2"], stdin=subprocess.DEVNULL,
+    playing = subprocess.Popen([TOP / "lab", "campaign", out, "--random", str(lives), "--seed", "7", "--jobs", "2"], stdin=subprocess.DEVNULL,
                                stdout=subprocess.PIPE, stderr=subprocess.PIPE, text=True)
     until(lambda: rows(out) >= 5 or playing.poll() is not None, "rows")
     with sqlite3.connect(f"file:{out}?mode=ro", uri=True) as connection:
@@ -216,7 +216,7 @@ def worker_killed(room, whole, lives):
 def full_disk(room):
     """A table that can't grow: the campaign fails and says so, keeps what it has, and goes on later."""
     out, lives = room / "full.db", 600
-    words = [str(TOP / "lab"), "campaign", str(out), "--random", str(lives), "--seed", "7", "--slots", "8", "--workers", "2"]
+    words = [str(TOP / "lab"), "campaign", str(out), "--random", str(lives), "--seed", "7", "--slots", "8", "--jobs", "2"]
     done = subprocess.run(["sh", "-c", 'ulimit -f 100; trap "" XFSZ; exec "$@"', "sh", *words], stdin=subprocess.DEVNULL, capture_output=True, text=True)
     unless(done.returncode == 3 and f"lab: {out}: " in done.stderr, f"a full disk: {done.returncode} {done.stdout}{done.stderr}")
     before = rows(out)
@@ -230,11 +230,11 @@ def faults(room, whole):
     other.write_bytes(whole.read_bytes())
     with sqlite3.connect(other) as connection:
         name = connection.execute("SELECT name FROM result ORDER BY name LIMIT 1").fetchone()[0]
-        connection.execute("UPDATE result SET image_sha256 = 'other' WHERE name = ?", (name,))
+        connection.execute("UPDATE result SET written_sha256 = 'other' WHERE name = ?", (name,))
         connection.execute("UPDATE result SET seconds = 99, worker = 'other'")
     connection.close()
     done = lab("compare", whole, other)
-    unless(done.returncode == 4 and done.stdout.splitlines()[-1] == "1 rows differ" and done.stdout.startswith(f"{name}: image_sha256"),
+    unless(done.returncode == 4 and done.stdout.splitlines()[-1] == "1 rows differ" and done.stdout.startswith(f"{name}: written_sha256"),
            f"a row that differs: {done.stdout}")
     with sqlite3.connect(other) as connection:
         connection.execute("UPDATE campaign SET value = 'other' WHERE name = 'etcs_sha256'")
@@ -255,7 +255,7 @@ def faults(room, whole):
     (folder / "inner" / "good.case.yaml").write_text(case.format("good", "emergency"))
     (folder / "inner" / "wrong.case.yaml").write_text(case.format("wrong", "none"))
     out = room / "cases.db"
-    done = lab("campaign", folder, "--workers", "2", out)
+    done = lab("campaign", folder, "--jobs", "2", out)
     with sqlite3.connect(out) as connection:
         found = {name: rest for name, *rest in connection.execute("SELECT name, kind, ended, tests, missed, sound FROM result")}
     wanted = {"inner/good.case.yaml": ["case", "carried out", 1, 0, 1], "inner/wrong.case.yaml": ["case", "carried out", 1, 1, 0],
@@ -270,7 +270,7 @@ def main():
         room = Path(folder)
         whole = room / "whole.db"
         begun = time.monotonic()
-        done = lab("campaign", whole, "--random", lives, "--seed", "7", "--workers", "2")
+        done = lab("campaign", whole, "--random", lives, "--seed", "7", "--jobs", "2")
         unless(done.returncode == 0 and done.stdout.startswith(f"{lives} rows, {lives} of them"), f"here: {done.stdout}{done.stderr}")
         seconds = time.monotonic() - begun
         for made in (by_two_workers(room, lives), interrupted(room, lives)):

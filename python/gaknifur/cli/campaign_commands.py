@@ -14,8 +14,8 @@ from ..simulation import campaign, campaign_table
 if TYPE_CHECKING:
     from ..journal.reading import Progress
 
-SHOWN = 10
-"""The number of unsound rows that are printed."""
+SHOWN, SLOTS, SLOTS_OF_RANDOM = 10, 64, 24
+"""The number of unsound rows that are printed; and the slots of an image, and of that of a random life, which needs fewer."""
 
 
 class Taking:
@@ -47,11 +47,16 @@ def run_jobs(given: SimpleNamespace, jobs: Iterator[campaign.Job], count: int, t
         if given.scheduler:
             from ..simulation import dask_scheduler
             return dask_scheduler.by_scheduler(jobs, count, given.scheduler, taking.take)
-        return campaign.here(jobs, count, max(1, given.workers), taking.take)
+        return campaign.here(jobs, count, given.jobs, taking.take)
     except KeyboardInterrupt:
         raise Failed(f"interrupted; {taking.played} were run and are kept. The same command continues", INTERRUPTED) from None
     finally:
         taking.table.close()
+
+
+def slots_of(given: SimpleNamespace, usual: int) -> int:
+    """The slots of an image."""
+    return usual if given.slots is None else int(given.slots)
 
 
 def play_campaign(given: SimpleNamespace, progress: "Progress") -> int:
@@ -60,12 +65,12 @@ def play_campaign(given: SimpleNamespace, progress: "Progress") -> int:
         raise Failed("campaign: a FOLDER or --random N is required", WRONG_WORDS)
     out = files.Out(given.csv, files.CAMPAIGN_TABLE, given.force) if given.csv else None
     files.check_all([out] if out else [], [given.out], [given.out])
-    jobs: campaign.Folder | list[campaign.Job] = campaign.Folder(given.folder, given.slots, given.replay) if given.folder else []
+    jobs: campaign.Folder | list[campaign.Job] = campaign.Folder(given.folder, slots_of(given, SLOTS), given.replay) if given.folder else []
     if given.folder and not len(jobs):
         raise Failed(f"{given.folder}: contains no test case and no scenario; nothing was run", REFUSED)
     count = len(jobs) + given.random
     taking = Taking(campaign_table.Table(given.out, campaign_table.settings_of()), count, progress)
-    lives = campaign.at_random(given.random, given.seed, given.slots, given.replay)
+    lives = campaign.at_random(given.random, given.seed, slots_of(given, SLOTS_OF_RANDOM), given.replay)
     lost = run_jobs(given, taking.left(itertools.chain(jobs, lives)), count, taking)
     rows, bad, first = campaign_table.unsound(given.out, SHOWN)
     if out:
@@ -85,8 +90,8 @@ def play_campaign(given: SimpleNamespace, progress: "Progress") -> int:
 
 def compare_campaigns(given: SimpleNamespace, progress: "Progress") -> int:
     """Runs `lab compare`."""
-    found = list(campaign_table.differences(given.first, given.second))
-    for line in found:
+    count = 0
+    for count, line in enumerate(campaign_table.differences(given.first, given.second), 1):
         print(shown(line))
-    print(f"{len(found)} rows differ")
-    return FOUND if found else 0
+    print(f"{count} rows differ")
+    return FOUND if count else 0

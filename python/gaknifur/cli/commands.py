@@ -2,7 +2,6 @@
 
 What a command does is in another module, which is loaded when the command runs: `lab --help` loads none of them.
 """
-import os
 from collections.abc import Sequence
 from importlib import import_module
 from operator import attrgetter
@@ -12,18 +11,27 @@ from typing import Any
 
 import click
 
-from ..program import version
+from ..program import PROCESSORS, version
 
 COMPLETE = "_LAB_COMPLETE"
 """The environment variable by which a shell asks for completions."""
 PATH = click.Path(path_type=Path)
 
 
-class Natural(click.IntRange):
-    """A number from 0 on. The help doesn't show the range."""
+class Natural(click.ParamType):
+    """A whole number within limits, which the help doesn't show."""
 
-    def _describe_range(self) -> str:
-        return ""
+    name = "integer"
+
+    def __init__(self, least: int, most: int) -> None:
+        self.least, self.most = least, most
+
+    def convert(self, value: Any, parameter: click.Parameter | None, context: click.Context | None) -> int:
+        """The number of a text."""
+        number: int = click.INT.convert(value, parameter, context)
+        if not self.least <= number <= self.most:
+            self.fail(f"has to be {self.least} to {self.most:,}", parameter, context)
+        return number
 
 
 NATURAL = Natural(0, 999_999_999)
@@ -130,6 +138,18 @@ class Setting(click.Option):
         return loaded(self.source)
 
 
+class Jobs(click.Option):
+    """The number of processes. `--workers` was its name, and is left out of the help."""
+
+    def __init__(self) -> None:
+        super().__init__(["--jobs", "--workers", "jobs"], help="processes on this machine (default: the number of processors)", metavar="N",
+                         type=Natural(1, 256), default=PROCESSORS)
+
+    def get_help_record(self, context: click.Context) -> tuple[str, str]:
+        """Its row in the help."""
+        return "--jobs N", self.help or ""
+
+
 def option(names: str, help: str, metavar: str | None = None, type: Any = None, **more: Any) -> click.Option:
     """An option: with a metavar it has a value, without one it is a flag."""
     return click.Option(names.split(), help=help, metavar=metavar, type=type, is_flag=metavar is None, **more)
@@ -184,6 +204,7 @@ TIMES = [option("--times", "marks of the time of day (default: IMAGE.times, if i
          option("--drift", "maximum clock drift in ppm (default: 100)", "PPM", int),
          option("--strangers", "go on where the marks name another unit or vehicle than IMAGE.identity")]
 STRANGERS = option("--strangers", "go on where IMAGE.identity names another unit or vehicle")
+JOBS = Jobs()
 WITHIN = Setting("--answer-within", "time limit for each answer of the other unit", "SECONDS", float, "units.other_unit:WITHIN_S")
 JOURNAL = [
     Command("table", "journal", "cli.journal_commands:write_table", "Print one row per journal record as CSV, or write a workbook",
@@ -273,7 +294,7 @@ TESTING: list[Command | Commands] = [
             option("--junitxml --junit-xml junitxml", "write the results as JUnit XML", "OUT.xml", PATH),
             option("--reached", "write what each case reaches, for `coverage --measured --reached`", "OUT.json", PATH),
             option("--python", "also run the folder's Python files for pytest (conftest.py, settings, test modules); they run with all your permissions"),
-            option("--replay", "run each case with `etcs run` on a file, and examine and replay its image"),
+            option("--replay", "run each case with `etcs run` on a file, and examine and replay its image"), JOBS,
             FORCE, option("--keep", "keep the image and report of each failed case in this new folder", "FOLDER"),
             option("--against", "also run another unit: a command that speaks the protocol of docs/howto/oracle.md. Its answers are checked and compared",
                    "COMMAND"), WITHIN, context_settings={"ignore_unknown_options": True}),
@@ -287,7 +308,7 @@ TESTING: list[Command | Commands] = [
             option("--measured", "run the cases and list what they reach: modes, causes, packets, refusals and others. Status 4: less than the folder's "
                    "measured.yaml asks for"),
             option("--reached", "read this file of `lab test --reached` instead of running the cases", "FILE.json", PATH),
-            option("--cases", "also list which case reaches each")),
+            option("--cases", "also list which case reaches each"), JOBS),
     Command("lint", "testing", "testing.lint:lint", "List faults and weak points of scenarios and test cases",
             "Runs `etcs_lab lint` and then the checks of docs/explain/safety.md. A case that is meant to show an item lists it under `shows`. Status 3: something "
             "was not judged, since the unit's library is missing. Status 4: something was found.", "lint suites --without advice",
@@ -312,8 +333,7 @@ TESTING: list[Command | Commands] = [
             "Status 4: an expected result is missing, or a point couldn't be judged.", "sweep brakes.yaml --html brakes.html",
             Argument("yaml", "FILE.yaml", "a case with parameters"), option("--csv", "write the table as CSV", "OUT.csv", PATH),
             option("--html", "write a page with heat maps", "OUT.html", PATH),
-            option("--workers", "points to run at once (default: the number of processors)", "N", int),
-            option("--replay", "run each point with `etcs run` on a file, and examine and replay its image"), FORCE),
+            JOBS, option("--replay", "run each point with `etcs run` on a file, and examine and replay its image"), FORCE),
     Command("search", "testing", "cli.search_commands:search", "Search random scenarios for one that breaks a property, and shrink it",
             "Status 4: one was found, or a property was never judged.", "search properties.yaml --examples 1000",
             Argument("yaml", "FILE.yaml", "the file with the properties"),
@@ -323,7 +343,7 @@ TESTING: list[Command | Commands] = [
             option("--keep", "write what is found into this new folder: a test case, its image and its report", "FOLDER", PATH),
             option("--against", "check the answers of another unit: a command that speaks the protocol of docs/howto/oracle.md", "COMMAND"),
             option("--records", "check these records of any unit instead of searching: lines as `etcs_lab events` prints them", "EVENTS.jsonl", PATH),
-            WITHIN),
+            WITHIN, JOBS),
     Command("hazards", "testing", "cli.hazard_commands:hazards", "Search small tracks exhaustively for the hazards of a train",
             "The unit is the library that `tools/library PREFIX` makes; GAKNIFUR_ETCS_UNIT names its .so. Needs gcc. Status 4: a hazard was found that no "
             "item of docs/explain/safety.md explains.", "hazards --hazard H1 --minutes 1",
@@ -331,8 +351,7 @@ TESTING: list[Command | Commands] = [
             option("--track", "only the small tracks whose names contain this text", "TEXT", default=""),
             Setting("--depth", "the most symbols in a sequence", "N", int, "cli.hazard_commands:DEPTH"),
             Setting("--minutes", "end the search after this time", "MINUTES", float, "cli.hazard_commands:MINUTES"),
-            option("--jobs", "processes on this machine (default: the number of processors)", "N", int, default=os.cpu_count() or 1),
-            option("--resume", "go on from this file, and add what is done", "FILE", PATH),
+            JOBS, option("--resume", "go on from this file, and add what is done", "FILE", PATH),
             option("--keep", "write what is found into this new folder: test cases, and a scenario for each life", "FOLDER", PATH),
             option("--steps", "print the steps of everything that is found"), option("--unmerged", "visit equal states again")),
     Command("sequence", "testing", "cli.testing_commands:sequence", "Convert a table of test steps to test cases",
@@ -355,10 +374,9 @@ SIMULATION = [
             Argument("paths", "[FOLDER] OUT.db", "run the case files and scenarios below FOLDER", nargs=-1, callback=folder_and_table, expose_value=False),
             option("--random", "also run this many random lives", "N", NATURAL, default=0),
             option("--seed", "seed of the random lives", "N", NATURAL, default=1, show_default=True),
-            option("--slots", "slots of each new image", "N", NATURAL, default=64, show_default=True),
+            option("--slots", "slots of each new image (default: 64; 24 for a random life, which needs fewer)", "N", NATURAL),
             option("--replay", "run each scenario with `etcs run` on a file, and examine and replay its image"),
-            option("--workers", "processes on this machine (default: the number of processors)", "N", NATURAL, default=os.cpu_count() or 1),
-            option("--scheduler", "use this Dask scheduler instead of local processes", "tcp://HOST:PORT"),
+            JOBS, option("--scheduler", "use this Dask scheduler instead of local processes", "tcp://HOST:PORT"),
             option("--csv", "write the whole table at the end", "OUT.csv", PATH),
             option("--force", "overwrite a CSV that lab made (no option overwrites others)")),
     Command("compare", "simulation", "cli.campaign_commands:compare_campaigns", "List the rows that differ between two campaigns",

@@ -16,14 +16,13 @@ from ..testing.scenarios import Scenario
 from ..unit import Brake
 from .progress import Terminal
 
-DEPTH, MINUTES, MOST_DEPTH, MOST_JOBS = 3, 10.0, 12, 256
+DEPTH, MINUTES, MOST_DEPTH = 3, 10.0, 12
 
 
 def check(given: SimpleNamespace) -> None:
     """Checks the options."""
-    for name, value, most in (("--depth", given.depth, MOST_DEPTH), ("--jobs", given.jobs, MOST_JOBS)):
-        if not 1 <= value <= most:
-            raise Failed(f"{name}: has to be 1 to {most}", WRONG_WORDS)
+    if not 1 <= given.depth <= MOST_DEPTH:
+        raise Failed(f"--depth: has to be 1 to {MOST_DEPTH}", WRONG_WORDS)
     if not given.minutes > 0:
         raise Failed("--minutes: has to be more than 0", WRONG_WORDS)
     unknown = [one for one in given.hazard if one not in HAZARDS]

@@ -173,7 +173,7 @@ def search(given: SimpleNamespace, progress: Progress) -> int:
     records = searching.Player(searching.Other(given.against, given.answer_within) if given.against else None)
     print(f"seed {seed}, {given.examples} scenarios", flush=True)
     wrong = 0
-    all_started = searching.survey(wanted, made, records, given.examples, seed)
+    all_started = searching.survey(wanted, made, records, given.examples, seed, 1 if given.against else given.jobs)
     for one, name, started in zip(wanted, names, all_started, strict=True):
         if started.first is None:
             wrong += report_held(one, started.found.judged, f" of {started.found.scenarios} scenarios")

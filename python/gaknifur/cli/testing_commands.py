@@ -115,7 +115,7 @@ def run_tests(given: SimpleNamespace, progress: Progress) -> None:
         status = run_pytest(given.folder, [
             "-q", "--no-header", *PLUGIN, "-o", f"cache_dir={results_of(root)}", "-W",
             "ignore::pytest.PytestCacheWarning", f"--rootdir={root}", *([] if given.python else WITHOUT_PYTHON), *words,
-            str(given.folder), *selected, *given.others], plugins + ([reached_plugin.Reaches(reached)] if reached else []))
+            str(given.folder), f"--jobs={given.jobs}", *selected, *given.others], plugins + ([reached_plugin.Reaches(reached)] if reached else []))
     if status == pytest.ExitCode.NO_TESTS_COLLECTED:
         why = "no test matches these options" if selected or given.others else "it contains no test case (NAME.case.yaml)"
         raise Failed(f"{given.folder}: {why}, so none was run", REFUSED)
@@ -147,7 +147,7 @@ def check_measured(given: SimpleNamespace) -> None:
 def show_measured(given: SimpleNamespace, progress: Progress) -> None:
     """Prints what the cases of a folder reach, as measured."""
     from ..testing import measured_coverage
-    found = measured_coverage.matrix(given.folder, given.reached, progress)
+    found = measured_coverage.matrix(given.folder, given.reached, given.jobs, progress)
     sys.stdout.write(measured_coverage.text(found, given.cases))
     sys.stdout.flush()
     if found.faults:
@@ -186,7 +186,7 @@ def run_sweep(given: SimpleNamespace, progress: Progress) -> None:
     case, _, _ = sweeps.at_point(sweep, sweep.points()[0])
     if any(life.drive for life in case.lives):
         check_library()
-    found = sweeps.play_all(sweep, given.workers, progress, given.replay)
+    found = sweeps.play_all(sweep, given.jobs, progress, given.replay)
     from ..testing import sweep_tables
     makers = {"csv": sweep_tables.as_csv, "html": sweep_tables.as_page}
     for name, out in outs.items():

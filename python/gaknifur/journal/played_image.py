@@ -5,16 +5,18 @@ also reads other images, damaged ones too, decodes telegrams, and replays.
 """
 import hashlib
 import struct
-from collections.abc import Iterator
+from collections.abc import Iterator, Sequence
 from functools import lru_cache
-from typing import NamedTuple
+from typing import Any, NamedTuple
 
 from ..program import REFUSED, Failed
 from ..units._header import Indication
 from . import layout
 from .reading import Json
 
-HEAD, RECORD, LONG = struct.Struct(">8sQQIB"), struct.Struct(">6BHQQqQI4x208s"), struct.Struct(">Q")
+HEAD, RECORD = struct.Struct(">8sQQIB"), struct.Struct(">6BHQQqQI4x208s")
+STATE = struct.Struct(">xBBxBxHQ8xq8xI212x")
+"""What an answer needs of a record: mode, brake, level, indications, event, place and limit."""
 MARK, MOST_RECORDS, MOST_UNCERTAINTY = layout.HEAD_MARKS[2], 8, 1 << 62
 KINDS = {1: "powerup", 2: "telegram", 3: "odometer", 4: "clock", 5: "driver"}
 MODES = {0: "FS", 1: "OS", 2: "SR", 3: "SH", 4: "UN", 6: "SB", 7: "TR", 8: "PT", 9: "SF"}
@@ -25,30 +27,30 @@ TRAIN = struct.Struct(">IIHHB")
 PLAIN_ACTIONS = {6: "start", 7: "choose_shunting", 8: "leave_shunting", 9: "override", 11: "close_desk"}
 SUBJECTS = {5: ("confirm", "confirmed", ("", "identity", "running_number", "train_data", "level")),
             10: ("acknowledge", "acknowledged", ("", "trip", "on_sight", "shunting", "level_0"))}
-Fields = tuple[int, int, int, int, int, int, int, int, int, int, int, int, bytes]
-"""The fields of a record, from its kind to its payload with the zeros after it."""
+EMPTY_SLOT = bytes(layout.SLOT)
 
 
-class Answer(NamedTuple):
-    """What a record says of the unit after its event; the first six as in a released output."""
+class Answers(NamedTuple):
+    """What the records say of the unit after each event, the oldest first: a column for each value, the first six as in a released output."""
 
-    event: int
-    mode: str
-    level: int | None
-    brake: str
-    limit_m_per_h: int
-    indications: list[str]
-    place_cm: int
-    life: int
+    event: Sequence[int] = ()
+    mode: Sequence[str] = ()
+    level: Sequence[int | None] = ()
+    brake: Sequence[str] = ()
+    limit_m_per_h: Sequence[int] = ()
+    indications: Sequence[list[str]] = ()
+    place_cm: Sequence[int] = ()
+    life: Sequence[int] = ()
 
 
 class Block(NamedTuple):
-    """A block: its number, its place in the image, its life, and the fields of its records."""
+    """A block: its number, its place in the image, its life, the number of its first event, and the bytes of its records."""
 
     number: int
     at: int
     life: int
-    records: list[Fields]
+    first: int
+    records: bytes
 
 
 def wrong(what: str) -> Failed:
@@ -56,33 +58,49 @@ def wrong(what: str) -> Failed:
     return Failed(f"the image of this run has {what}", REFUSED)
 
 
+gate, first_sector = lru_cache(1024)(layout.gate), lru_cache(16)(layout.first_sector)
+
+
+@lru_cache(16)
+def gates(slots: int) -> struct.Struct:
+    """The numbers in the gates of an image."""
+    return struct.Struct(f">{layout.SECTOR}x" + slots * f"8xQ{layout.SLOT - 16}x")
+
+
 def blocks(image: bytes) -> Iterator[Block]:
-    """The blocks of an image, the oldest first. Fails unless their numbers follow one another, and so do their events."""
-    slots = layout.slots_of(image[:layout.SECTOR])
-    if slots is None or len(image) != layout.slot_at(slots):
+    """The blocks of an image, the oldest first. Fails unless their numbers follow one another, and so do the events that their heads count."""
+    slots = len(image) // layout.SLOT
+    if slots < layout.LEAST_SLOTS or len(image) != layout.slot_at(slots) or not image.startswith(first_sector(slots)):
         raise wrong("no valid first sector, or another size")
-    numbers = sorted(number for slot in range(slots) if (number := LONG.unpack_from(image, layout.slot_at(slot) + 8)[0]))
+    numbers: list[int] = sorted(filter(None, gates(slots).unpack(image)))
     if numbers and not (numbers[-1] - numbers[0] == len(numbers) - 1 and len(numbers) == min(slots, numbers[-1])):
         raise wrong("lost blocks")
     before = None
     for number in numbers:
         at = layout.slot_at(number % slots)
-        mark, _, events, lives, count = HEAD.unpack_from(image, at + layout.SECTOR)
-        if layout.block_in(image[at:at + layout.SLOT]) != number or mark != MARK or count > MOST_RECORDS:
+        *head, events, life, count = HEAD.unpack_from(image, at + layout.SECTOR)
+        if head != [MARK, number] or count > MOST_RECORDS or not image.startswith(gate(number), at):
             raise wrong(f"no valid block {number}")
-        first = at + 2 * layout.SECTOR
-        records: list[Fields] = list(RECORD.iter_unpack(image[first:first + count * RECORD.size]))  # type: ignore[arg-type]
-        if [one[7] for one in records] != list(range(events - count, events)) or before not in (None, events - count):
+        first, start = events - count, at + 2 * layout.SECTOR
+        if before not in (None, first):
             raise wrong(f"other events in block {number}")
         before = events
-        yield Block(number, at, lives, records)
+        yield Block(number, at, life, first, image[start:start + count * RECORD.size])
 
 
-def answers(image: bytes) -> list[Answer]:
-    """What each record says of the unit, the oldest first."""
+def answers(image: bytes) -> Answers:
+    """What the records say of the unit. Fails unless each has the number that the heads give it."""
+    found = list(blocks(image))
+    states = list(STATE.iter_unpack(b"".join(block.records for block in found)))
+    if not states:
+        return Answers()
+    mode, brake, level, signs, event, place, limit = zip(*states)
+    if event != tuple(range(found[0].first, found[0].first + len(states))):
+        raise wrong("records with other numbers")
+    lives = [block.life for block in found for _ in range(0, len(block.records), RECORD.size)]
     try:
-        return [Answer(one[7], MODES[one[1]], LEVELS[one[4]], BRAKES[one[2]], one[11], INDICATIONS[one[6]], one[9], block.life)
-                for block in blocks(image) for one in block.records]
+        return Answers(event, [MODES[one] for one in mode], [LEVELS[one] for one in level], [BRAKES[one] for one in brake], limit,
+                       [INDICATIONS[one] for one in signs], place, lives)
     except (KeyError, IndexError) as error:
         raise wrong("a record with an unknown value") from error
 
@@ -90,14 +108,16 @@ def answers(image: bytes) -> list[Answer]:
 def records(image: bytes) -> list[Json]:
     """The records as `etcs_lab events` prints them, but for `decoded` and `unused` of a telegram."""
     try:
-        return [record_of(block, number, one) for block in blocks(image) for number, one in enumerate(block.records)]
+        return [record_of(block, number, one) for block in blocks(image) for number, one in enumerate(RECORD.iter_unpack(block.records))]
     except (KeyError, IndexError, ValueError, struct.error) as error:
         raise wrong("a record with an unknown value") from error
 
 
-def record_of(block: Block, number: int, fields: Fields) -> Json:
+def record_of(block: Block, number: int, fields: tuple[Any, ...]) -> Json:
     """A record of a block."""
     kind, mode, brake, size, level, _, bits, event, moment, place, uncertainty, limit, payload = fields
+    if event != block.first + number:
+        raise wrong(f"other events in block {block.number}")
     is_near = uncertainty <= MOST_UNCERTAINTY
     return {"block": block.number, "byte": block.at + 2 * layout.SECTOR + number * RECORD.size, "event": event, "life": block.life,
             "kind": KINDS[kind], "time_ms": moment, "mode": MODES[mode], "level": LEVELS[level], "brake": BRAKES[brake],
@@ -115,7 +135,7 @@ def input_of(kind: str, payload: bytes) -> Json:
     if kind == "odometer":
         movement, speed = struct.unpack(">iI", payload)
         return {"movement_cm": movement, "speed_m_per_h": speed}
-    return {"now_ms": LONG.unpack(payload)[0]} if kind == "clock" else action_of(payload[0], payload[1:])
+    return {"now_ms": int.from_bytes(payload, "big")} if kind == "clock" else action_of(payload[0], payload[1:])
 
 
 def action_of(code: int, values: bytes) -> Json:
@@ -134,17 +154,20 @@ def action_of(code: int, values: bytes) -> Json:
     return {"action": "choose_level", "chosen_level": values[0]} if code == 4 else {"action": PLAIN_ACTIONS[code]}
 
 
+@lru_cache(16)
 def empty(slots: int) -> bytes:
     """An empty image."""
     return layout.first_sector(slots).ljust(layout.slot_at(slots), b"\0")
 
 
-@lru_cache(maxsize=16)
-def empty_sha256(slots: int) -> str:
-    """The SHA-256 of an empty image."""
-    return hashlib.sha256(empty(slots)).hexdigest()
+def written(image: bytes) -> memoryview:
+    """An image without the empty slots at its end, which take longer to digest than a life to run."""
+    end = len(image)
+    while end > layout.SLOT and image.startswith(EMPTY_SLOT, end - layout.SLOT):
+        end -= layout.SLOT
+    return memoryview(image)[:end]
 
 
-def sha256(image: bytes, slots: int) -> str:
-    """The SHA-256 of an image; without bytes that of an empty one."""
-    return hashlib.sha256(image).hexdigest() if image else empty_sha256(slots)
+def sha256(image: bytes) -> str:
+    """The SHA-256 of what is written of an image."""
+    return hashlib.sha256(written(image)).hexdigest()

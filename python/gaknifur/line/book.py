@@ -10,7 +10,7 @@ from ..journal.groups import Group as Identity
 from ..journal.reading import Json
 from ..journal.reading import read as read_journal
 from ..journal.wording import MODES
-from ..play import play_images
+from ..playing import play_images
 from ..program import REFUSED, Failed
 from ..simulation import drives
 from ..simulation.drives import Drive, Driver

@@ -12,7 +12,7 @@ from typing import Any
 from .. import program
 from ..journal import played_image
 from ..journal.reading import Progress
-from ..play import play_images
+from ..playing import play_images
 from ..program import REFUSED, Failed
 from ..testing import course
 from ..testing.course import Event

@@ -18,14 +18,14 @@ from pathlib import Path
 from typing import Any
 
 from ..escaping import shown
-from ..play import Died
+from ..playing import Died
 from ..testing import case_files
 
 Row = dict[str, Any]
 Take = Callable[[list[Row]], None]
 """Receives the rows of jobs that ran together."""
 
-COLUMNS = ("name", "job_sha256", "kind", "ended", "image_sha256", "events", "lives", "mode", "brake", "limit_m_per_h",
+COLUMNS = ("name", "job_sha256", "kind", "ended", "written_sha256", "events", "lives", "mode", "brake", "limit_m_per_h",
            "place_cm", "emergencies", "trips", "tests", "missed", "first_missed", "sound", "seconds", "worker")
 NOT_COMPARED = ("seconds", "worker")
 MOST_LOSSES = 3

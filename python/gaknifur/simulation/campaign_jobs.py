@@ -5,6 +5,8 @@ it writes, which are read in this process and deleted. `etcs run` and `etcs_lab`
 examination and a replay of the image are wanted, or where the scenario is no JSON object.
 """
 import contextlib
+import itertools
+import operator
 import os
 import socket
 import tempfile
@@ -16,9 +18,9 @@ from typing import TYPE_CHECKING
 from .. import etcs_run, program
 from ..etcs_run import CARRIED_OUT, Released
 from ..journal import played_image
-from ..journal.played_image import Answer
+from ..journal.played_image import Answers
 from ..journal.reading import Json, read
-from ..play import AHEAD, Died, Result, ended, on_a_line, play_images
+from ..playing import AHEAD, Died, Result, ended, on_a_line, play_images
 from ..program import DEVICE, Failed
 from ..testing import soundness
 from .campaign import Job, Row, row_without
@@ -60,7 +62,7 @@ def play_scenario(job: Job, folder: Path) -> Row:
 def of_records(image: Path, released: list[Released]) -> Row:
     """The values of a row that come from an image, with the fault if it isn't sound."""
     journal = read(image, replay=True, is_own=True)
-    row: Row = {"image_sha256": journal.sha256}
+    row: Row = {"written_sha256": played_image.sha256(image.read_bytes())}
     try:
         soundness.check_image(journal)
         soundness.check_released(released, journal.records)
@@ -69,27 +71,23 @@ def of_records(image: Path, released: list[Released]) -> Row:
     return row | values_of(journal.records)
 
 
-ANSWER = Answer._fields
-
-
 def values_of(records: Iterable[Json]) -> Row:
     """The values of a row that come from records."""
-    return values([Answer(*(record[name] for name in ANSWER)) for record in records])
+    return values(Answers(*zip(*([record[name] for name in Answers._fields] for record in records))))
 
 
-def values(answers: Sequence[Answer]) -> Row:
+def values(answers: Answers) -> Row:
     """The values of a row that come from the answers to all events."""
-    if not answers:
+    if not answers.event:
         return {"events": 0, "lives": 0}
-    last, brakes, modes = answers[-1], [one.brake for one in answers], [one.mode for one in answers]
-    return {"events": len(answers), "lives": len({one.life for one in answers}), "mode": last.mode, "brake": last.brake,
-            "limit_m_per_h": last.limit_m_per_h, "place_cm": last.place_cm, "emergencies": count_starts(brakes, "emergency"),
-            "trips": count_starts(modes, "TR")}
+    return {"events": len(answers.event), "lives": len(set(answers.life)), "mode": answers.mode[-1], "brake": answers.brake[-1],
+            "limit_m_per_h": answers.limit_m_per_h[-1], "place_cm": answers.place_cm[-1], "emergencies": count_starts(answers.brake, "emergency"),
+            "trips": count_starts(answers.mode, "TR")}
 
 
-def count_starts(values: list[str], value: str) -> int:
+def count_starts(values: Sequence[str], value: str) -> int:
     """How often a run of a value starts after another value."""
-    return sum(now == value != before for before, now in zip(values, values[1:])) if value in values else 0
+    return sum(one == value for one, _ in itertools.groupby(values)) - (values[0] == value)
 
 
 def play_case(job: Job, folder: Path) -> Row:
@@ -114,7 +112,7 @@ def judged(path: Path, replay: bool) -> Row:
             tests, messages = tests + count, messages + missed
             if isinstance(outcome.result, case_runner.Played):
                 records += outcome.result.records
-    return {"image_sha256": None, "tests": tests, "missed": len(messages), "first_missed": messages[0] if messages else None,
+    return {"written_sha256": None, "tests": tests, "missed": len(messages), "first_missed": messages[0] if messages else None,
             "sound": int(not messages)} | values_of(records)
 
 
@@ -141,11 +139,12 @@ def row_of(job: Job, result: Result, image: bytes, folder: Path) -> Row:
     how = ended(result)
     if how is None:
         return play(job, folder)
-    row = row_without(job, how) | {"sound": 1, "image_sha256": played_image.sha256(image, job.slots)}
+    image = image or played_image.empty(job.slots)
+    row = row_without(job, how) | {"sound": 1, "written_sha256": played_image.sha256(image)}
     try:
-        answers = played_image.answers(image) if image else []
+        answers = played_image.answers(image)
         row |= values(answers)
-        check_outputs(result["outputs"] if image else [], answers, image)
+        check_outputs(result.get("outputs", []), result.get("events", 0), answers, image)
     except soundness.Missed as missed:
         row |= {"first_missed": str(missed), "sound": 0}
     except Failed as failed:
@@ -153,26 +152,44 @@ def row_of(job: Job, result: Result, image: bytes, folder: Path) -> Row:
     return row
 
 
-def check_outputs(outputs: list[Json], answers: list[Answer], image: bytes) -> None:
-    """Fails unless each released output is that of its record. Only a difference is judged by all of the records."""
-    by_event = {one.event: one[:6] for one in answers}
-    if any(by_event.get(output["event"], tuple(output.values())) != tuple(output.values()) for output in outputs):
+def check_outputs(changes: list[Json], count: int, answers: Answers, image: bytes) -> None:
+    """Fails unless each of `count` released outputs is that of its record, the last one of the newest record. Only those that change are given."""
+    newest = answers.event[-1] if answers.event else 0
+    if newest != count:
+        raise soundness.Missed(f"a newest record of event {count}, whose output was released last", f"one of event {newest}")
+    if not are_outputs(changes, answers):
+        ends = [*(one["event"] for one in changes[1:]), count + 1]
+        outputs = (one | {"event": event} for one, end in zip(changes, ends) for event in range(one["event"], end))
         soundness.check_released(map(etcs_run.output_of, outputs), played_image.records(image))
+
+
+OUTPUT = operator.itemgetter(1, 2, 3, 4, 5)
+"""An output but for its event."""
+
+
+def are_outputs(changes: list[Json], answers: Answers) -> bool:
+    """Whether the records agree with the outputs. One that isn't given is like the one before."""
+    given, states = [tuple(one.values()) for one in changes], zip(*answers[:6])
+    if answers.event[:1] == (0,):
+        next(states)  # a power-up, whose output isn't released
+    elif earlier := [one for one in given if one[0] <= answers.event[0]]:
+        given[:len(earlier)] = [(answers.event[0], *earlier[-1][1:])]
+    return given == [next(run) for _, run in itertools.groupby(states, OUTPUT)]
 
 
 def play_together(jobs: Sequence[tuple[Job, bytes]], folder: Path) -> Iterator[Row]:
     """Runs scenarios, each with its line, in one process, and yields their rows; fails with `Died` if the process dies."""
-    left, start = iter(jobs), time.perf_counter()
+    left, start, worker = iter(jobs), time.perf_counter(), player()
     try:
-        with contextlib.closing(play_images(((line, job.slots) for job, line in jobs), folder)) as results:
+        with contextlib.closing(play_images(((line, job.slots) for job, line in jobs), folder, "changes")) as results:
             for (result, image), (job, _) in zip(results, left):
                 row, before, start = row_of(job, result, image, folder), start, time.perf_counter()
-                yield row | {"seconds": round(start - before, 6), "worker": player()}
+                yield row | {"seconds": round(start - before, 6), "worker": worker}
     except Died:
         raise
     except Failed as failed:  # an image can't be written, for example
         for job, _ in left:
-            yield row_without(job, f"failed: {failed}") | {"seconds": 0.0, "worker": player()}
+            yield row_without(job, f"failed: {failed}") | {"seconds": 0.0, "worker": worker}
 
 
 def play_all(jobs: list[Job]) -> list[Row]:
@@ -195,4 +212,5 @@ def line_of(job: Job) -> bytes | None:
     """The scenario of a job on one line; None if the job can't run together with others."""
     if job.kind != "scenario" or job.unread or job.is_replayed or job.slots > MOST_TOGETHER:
         return None
-    return on_a_line(job.content[0][1])
+    scenario = job.content[0][1]
+    return scenario if job.seed else on_a_line(scenario)

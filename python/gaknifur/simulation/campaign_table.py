@@ -1,11 +1,14 @@
 """Keep the table of a campaign in SQLite: add its rows, list those that aren't sound, write it as CSV, and compare two tables."""
 import csv
+import heapq
 import io
+import itertools
 import sqlite3
 import time
-from collections.abc import Iterator
+from collections.abc import Iterable, Iterator
 from operator import itemgetter
 from pathlib import Path
+from typing import Any
 
 from .. import files, program
 from ..digests import digest
@@ -19,7 +22,7 @@ INSERT = f"INSERT OR REPLACE INTO result ({', '.join(COLUMNS)}) VALUES ({', '.jo
 SCHEMA = """
 CREATE TABLE campaign (name TEXT PRIMARY KEY, value TEXT NOT NULL) STRICT;
 CREATE TABLE result (
-    name TEXT PRIMARY KEY, job_sha256 TEXT NOT NULL, kind TEXT NOT NULL, ended TEXT NOT NULL, image_sha256 TEXT, events INTEGER,
+    name TEXT PRIMARY KEY, job_sha256 TEXT NOT NULL, kind TEXT NOT NULL, ended TEXT NOT NULL, written_sha256 TEXT, events INTEGER,
     lives INTEGER, mode TEXT, brake TEXT, limit_m_per_h INTEGER, place_cm INTEGER, emergencies INTEGER, trips INTEGER,
     tests INTEGER, missed INTEGER, first_missed TEXT, sound INTEGER NOT NULL, seconds REAL, worker TEXT) STRICT;
 """
@@ -99,12 +102,13 @@ def settings_of() -> dict[str, str]:
     return found
 
 
-def rows_of(path: Path) -> dict[str, Row]:
-    """The rows of a table by name, with the columns that are compared."""
+def rows_of(path: Path) -> Iterator[Row]:
+    """The rows of a table in the order of their names, with the columns that are compared."""
     connection = files.read_database(path, files.CAMPAIGN)
     try:
         kept = [name for name in COLUMNS if name not in NOT_COMPARED]
-        return {row[0]: dict(zip(kept, row)) for row in connection.execute(f"SELECT {', '.join(kept)} FROM result ORDER BY name")}
+        for row in connection.execute(f"SELECT {', '.join(kept)} FROM result ORDER BY name"):
+            yield dict(zip(kept, row))
     except sqlite3.DatabaseError as error:
         raise Failed(f"{path}: is not a campaign table", REFUSED) from error
     finally:
@@ -139,24 +143,34 @@ def refused(path: Path) -> tuple[int, str]:
 
 def write_csv(path: Path, out: files.Out) -> None:
     """Writes the whole table as CSV, in the order of the names."""
-    connection, text = files.read_database(path, files.CAMPAIGN), io.StringIO()
+    connection = files.read_database(path, files.CAMPAIGN)
     try:
-        writer = csv.writer(text, lineterminator="\n")
-        writer.writerow(COLUMNS)
-        writer.writerows(map(guarded, row) for row in connection.execute(f"SELECT {', '.join(COLUMNS)} FROM result ORDER BY name"))
+        rows = connection.execute(f"SELECT {', '.join(COLUMNS)} FROM result ORDER BY name")
+        files.write(out, map(csv_line, itertools.chain([COLUMNS], rows)), [path])
     finally:
         connection.close()
-    files.write(out, text.getvalue(), [path])
+
+
+def csv_line(row: Iterable[Any]) -> str:
+    """A line of CSV."""
+    text = io.StringIO()
+    csv.writer(text, lineterminator="\n").writerow(map(guarded, row))
+    return text.getvalue()
+
+
+def named(path: Path) -> Iterator[tuple[str, Path, Row]]:
+    """The rows of a table with their names and their table."""
+    return ((row["name"], path, row) for row in rows_of(path))
 
 
 def differences(one: Path, other: Path) -> Iterator[str]:
     """The differences between two campaigns, one line for each row."""
-    first, second = rows_of(one), rows_of(other)
-    for name in sorted(first.keys() | second.keys()):
-        if name not in second or name not in first:
-            yield f"{name}: only in {one if name in first else other}"
-            continue
-        changes = [f"{column} {first[name][column]} and {second[name][column]}" for column in first[name]
-                if first[name][column] != second[name][column]]
-        if changes:
-            yield f"{name}: {'; '.join(changes)}"
+    both = heapq.merge(*(named(path) for path in (one, other)), key=itemgetter(0))
+    for name, found in itertools.groupby(both, itemgetter(0)):
+        (_, path, first), *others = found
+        if not others:
+            yield f"{name}: only in {path}"
+        for _, _, second in others:
+            changes = [f"{column} {first[column]} and {second[column]}" for column in first if first[column] != second[column]]
+            if changes:
+                yield f"{name}: {'; '.join(changes)}"

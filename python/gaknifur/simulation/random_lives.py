@@ -1,79 +1,128 @@
 """Make random lives for campaigns: scenarios that a unit accepts, with a train that mostly drives forward. The same numbers give the
-same life.
+same life, on each machine. A life takes longer to make than to run, so its JSON is put together from texts that are made once.
 """
 import functools
+import itertools
 import json
 import random
-from typing import Any
+from collections.abc import Iterator, Sequence
+from typing import Any, TypeVar
 
 from ..testing import telegrams
 
-MOST_STEPS = 60
+MOST_STEPS, MOST_GROUPS, GROUPS_WITHIN_CM = 60, 4, 400_000
 ENTRIES = ([4, 1], [3, 20_000, 160_000, 70, 1_000, 15], [2, 704])
 ACTIONS = ([5, 1], [5, 2], [5, 3], [5, 4], [6], [7], [8], [9], [10, 1], [10, 2], [10, 3], [10, 4], [11], [4, 0], [4, 1])
-SPEEDS = (5_000, 20_000, 40_000, 80_000, 120_000, 160_000)
+WAYS_CM, BACK_CM = (100, 1_000, 5_000, 20_000), (0, 0, -100, -400)
+SPEEDS, BACK_SPEEDS = (5_000, 20_000, 40_000, 80_000, 120_000, 160_000), (0, 0, 3_000)
+WAITS_MS = (2_000, 10_000, 40_000)
+HEAD_DIGITS, GROUP_SHIFT = 13, 3
+"""The digits of a telegram that contain the number of its group, and the bits after it in them."""
+One = TypeVar("One")
 
 
-@functools.lru_cache(maxsize=None)
+def pick(numbers: random.Random, some: Sequence[One]) -> One:
+    """One of some values."""
+    return some[int(numbers.random() * len(some))]
+
+
+def text_of(value: Any) -> str:
+    """The JSON of a value."""
+    return json.dumps(value, separators=(",", ":"))
+
+
 def digits(text: str) -> str:
     """The digits of a telegram."""
     return telegrams.telegram(text).digits
 
 
+# ---- telegrams
+
+@functools.cache
+def of_group_0(packets: str) -> tuple[int, str]:
+    """A telegram of group 0 with these packets: the number in its first digits, and the others."""
+    found = digits(f"NID_BG 0; {packets}")
+    return int(found[:HEAD_DIGITS], 16), found[HEAD_DIGITS:]
+
+
+def telegram(group: int, packets: str) -> str:
+    """The digits of a telegram of a group."""
+    head, rest = of_group_0(packets)
+    return f"{head | group << GROUP_SHIFT:0{HEAD_DIGITS}X}{rest}"
+
+
+def authorities(way: int) -> list[str]:
+    """The packets of authorities for this way, mostly with gradients and speeds."""
+    alone = [f"12: V_MAIN {speed}, L_ENDSECTION {way}" for speed in (8, 16, 24, 32)]
+    tracks = [f"21: D_GRADIENT 0, Q_GDIR {rises}, G_A {gradient}; 27: D_STATIC 0, V_STATIC {speed}, Q_FRONT {front}, N_ITER 0"
+              for rises in range(2) for gradient in (0, 0, 5, 20) for speed in (12, 20, 28) for front in range(2)]
+    return [f"{one}; {track}" for one in alone for track in tracks] + alone * (len(tracks) // 9)
+
+
+AUTHORITIES = [one for way in (200, 500, 1_000, 2_000, 5_000) for one in authorities(way)]
+RESTRICTIONS = [f"65: NID_TSR {number}, D_TSR {place}, L_TSR {length}, Q_FRONT {front}, V_TSR {speed}"
+                for number in range(4) for place in (0, 100, 400) for length in (50, 300) for front in range(2) for speed in (2, 6, 12)]
+RESTRICTIONS += [f"66: NID_TSR {number}" for number in range(4) for _ in range(len(RESTRICTIONS) // 16)]
+"""A fifth of them end a restriction."""
+ANNOUNCED = (AUTHORITIES, RESTRICTIONS)
+
+
 def authority(numbers: random.Random, group: int) -> str:
-    """A group with an authority, and mostly with gradients and speeds."""
-    way = numbers.choice((200, 500, 1_000, 2_000, 5_000))
-    text = f"NID_BG {group}; 12: V_MAIN {numbers.choice((8, 16, 24, 32))}, L_ENDSECTION {way}"
-    if numbers.random() < 0.9:
-        text += (f"; 21: D_GRADIENT 0, Q_GDIR {numbers.randrange(2)}, G_A {numbers.choice((0, 0, 5, 20))}"
-                 f"; 27: D_STATIC 0, V_STATIC {numbers.choice((12, 20, 28))}, Q_FRONT {numbers.randrange(2)}, N_ITER 0")
-    return digits(text)
+    """A telegram with an authority."""
+    return telegram(group, pick(numbers, AUTHORITIES))
 
 
-def restriction(numbers: random.Random, group: int) -> str:
-    """A group with a restriction, or with the end of one."""
-    number = numbers.randrange(4)
-    if numbers.random() < 0.2:
-        return digits(f"NID_BG {group}; 66: NID_TSR {number}")
-    return digits(f"NID_BG {group}; 65: NID_TSR {number}, D_TSR {numbers.choice((0, 100, 400))}, "
-                  f"L_TSR {numbers.choice((50, 300))}, Q_FRONT {numbers.randrange(2)}, V_TSR {numbers.choice((2, 6, 12))}")
+def announced(numbers: random.Random, group: int) -> str:
+    """A telegram with an authority or about a restriction."""
+    return telegram(group, pick(numbers, pick(numbers, ANNOUNCED)))
 
 
-def groups(numbers: random.Random) -> list[dict[str, Any]]:
+# ---- steps
+
+CLOCK, HEARD = "a moment of the clock", "a telegram"
+
+
+def drives(ways: Sequence[int], speeds: Sequence[int]) -> list[str]:
+    """Each of these ways at each of these speeds."""
+    return [text_of({"drive": [way, speed]}) for way in ways for speed in speeds]
+
+
+IN_100 = [(55, drives(WAYS_CM, SPEEDS)), (8, drives(BACK_CM, BACK_SPEEDS)), (12, [CLOCK]), (18, [text_of({"driver": one}) for one in ACTIONS]),
+          (4, [HEARD]), (3, [text_of({"flush": True})])]
+"""The kinds of steps, with how many of a hundred steps are of each."""
+STEPS = [one for count, kind in IN_100 for one in kind for _ in range(120 * count // len(kind))]
+"""The steps, each as often as its share asks for, so that one number chooses a step."""
+ENTERED = [text_of({"driver": one}) for one in (*ENTRIES, [6])]
+"""The steps by which a train that has an authority and an identity starts."""
+
+
+def steps(numbers: random.Random) -> Iterator[str]:
+    """The JSON of random steps, without end."""
+    draw, count, moment = numbers.random, len(STEPS), 0
+    while True:
+        one = STEPS[int(draw() * count)]
+        if one is CLOCK:
+            moment += pick(numbers, WAITS_MS)
+            one = f'{{"clock":{moment}}}'
+        elif one is HEARD:
+            one = f'{{"telegram":"{announced(numbers, 2 + int(8 * draw()))}"}}'
+        yield one
+
+
+def ready(numbers: random.Random) -> list[str]:
+    """The steps that make a train ready."""
+    identity = text_of({"driver": [1, f"IC {int(1_000 * numbers.random())}"]})
+    return [f'{{"telegram":"{authority(numbers, 2)}"}}', identity, *ENTERED]
+
+
+def groups(numbers: random.Random) -> list[str]:
     """Groups of one balise ahead of the start."""
-    places = sorted(numbers.sample(range(1, 400_000), numbers.randrange(5)))
-    makers = (authority, restriction)
-    return [{"at": place, "spacing": 300, "balises": [numbers.choice(makers)(numbers, 10 + index)]}
-            for index, place in enumerate(places)]
-
-
-def step(numbers: random.Random, moment: int) -> dict[str, Any]:
-    """A random step."""
-    chance = numbers.random()
-    if chance < 0.55:
-        return {"drive": [numbers.choice((100, 1_000, 5_000, 20_000)), numbers.choice(SPEEDS)]}
-    if chance < 0.63:
-        return {"drive": [numbers.choice((0, 0, -100, -400)), numbers.choice((0, 0, 3_000))]}
-    if chance < 0.75:
-        return {"clock": moment}
-    if chance < 0.93:
-        return {"driver": numbers.choice(ACTIONS)}
-    if chance < 0.97:
-        return {"telegram": numbers.choice((authority, restriction))(numbers, numbers.randrange(2, 10))}
-    return {"flush": True}
+    places = {1 + int((GROUPS_WITHIN_CM - 1) * numbers.random()) for _ in range(int((MOST_GROUPS + 1) * numbers.random()))}
+    return [f'{{"at":{place},"spacing":300,"balises":["{announced(numbers, group)}"]}}' for group, place in enumerate(sorted(places), 10)]
 
 
 def scenario(numbers: random.Random) -> bytes:
-    """The bytes of a random scenario; most of them first make the train ready."""
-    steps: list[dict[str, Any]] = []
-    if numbers.random() < 0.9:
-        steps.append({"telegram": authority(numbers, 2)})
-        steps.append({"driver": [1, f"IC {numbers.randrange(1_000)}"]})
-        steps += [{"driver": entry} for entry in ENTRIES]
-        steps.append({"driver": [6]})
-    moment = 0
-    for _ in range(numbers.randrange(MOST_STEPS)):
-        moment += numbers.choice((500, 1_000, 5_000))
-        steps.append(step(numbers, moment))
-    members = {"groups": groups(numbers), "steps": steps, "cold": numbers.randrange(3)}
-    return json.dumps(members, separators=(",", ":")).encode()
+    """The bytes of a random scenario, on one line; most of them first make the train ready."""
+    begin = ready(numbers) if numbers.random() < 0.9 else []
+    found = ",".join([*begin, *itertools.islice(steps(numbers), int(MOST_STEPS * numbers.random()))])
+    return f'{{"groups":[{",".join(groups(numbers))}],"steps":[{found}],"cold":{int(3 * numbers.random())}}}'.encode()

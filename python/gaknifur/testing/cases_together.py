@@ -9,14 +9,17 @@ from collections.abc import Generator, Sequence
 from dataclasses import dataclass
 from pathlib import Path
 
-from .. import etcs_run, program
+from .. import etcs_run, processes, program
 from ..journal import played_image
 from ..journal.reading import read
-from ..play import AHEAD, LONGEST, Died, Result, ended, lives_of, on_a_line, play_images
+from ..playing import AHEAD, LONGEST, Died, Result, ended, lives_of, on_a_line, play_images
 from ..program import REFUSED, Failed
 from . import case_runner
 from .case_runner import Missed, Played
 from .cases import Case, Life
+
+LEAST_APART, MOST_APART = 32, 100
+"""The least number of cases that several processes share, and the greatest number that one of them runs together."""
 
 
 @dataclass(frozen=True)
@@ -103,12 +106,22 @@ def play_all(cases: Sequence[Case], why: bool = False, replay: bool = False) -> 
             next(results, None)  # it checks how the program ended
 
 
+def play_apart(cases: Sequence[Case], why: bool, replay: bool, jobs: int) -> Generator[Outcome, None, None]:
+    """The outcomes of `play_all`, by so many processes."""
+    def outcomes(part: range) -> list[Outcome]:
+        return list(play_all(cases[part.start:part.stop], why, replay))
+
+    for some in processes.each(outcomes, processes.parts_of(len(cases), jobs, MOST_APART), jobs):
+        yield from some
+
+
 class Together:
     """Runs cases as their outcomes are asked for. If `etcs_lab play` fails, this is reported once, and each other case is run by itself."""
 
-    def __init__(self, cases: Sequence[Case], why: bool, replay: bool) -> None:
+    def __init__(self, cases: Sequence[Case], why: bool, replay: bool, jobs: int = 1) -> None:
         self.cases, self.why = iter(cases), why
-        self.outcomes = play_all(cases, why, replay)
+        is_apart = jobs > 1 and (replay or len(cases) >= LEAST_APART)
+        self.outcomes = play_apart(cases, why, replay, jobs) if is_apart else play_all(cases, why, replay)
         self.waiting: dict[int, Outcome] = {}
         """The outcomes that weren't asked for yet, by the identities of their cases."""
 

@@ -10,7 +10,7 @@ from pathlib import Path
 
 from .. import program
 from ..journal.reading import Json, objects
-from ..play import image_in, play_images
+from ..playing import image_in, play_images
 from ..program import WHOLE, Failed
 from ..yaml_files import Value
 from . import telegrams
@@ -53,7 +53,7 @@ def together(digits: list[str]) -> list[tuple[str, list[str]]]:
     records: list[Json] = []
     with program.temporary_folder(slots) as name, contextlib.closing(play_images([(json.dumps(scenario).encode(), slots)], Path(name))) as results:
         for result, image in results:
-            run = objects(["events"], image_in(Path(name), result), records.append) if image else None
+            run = objects(["events"], Path(image_in(Path(name), result)), records.append) if image else None
             if run is None or run.status != WHOLE:
                 return []
     found = [(one["telegram"].upper(), lines_of(one["decoded"])) for one in records if one.get("kind") == "telegram"]

@@ -6,17 +6,15 @@ A member that is reached although it has a reason is a fault too.
 """
 import contextlib
 import json
-import os
 from collections.abc import Iterable
-from concurrent.futures import ThreadPoolExecutor
 from dataclasses import dataclass, field
 from fnmatch import fnmatchcase
 from pathlib import Path
 
-from .. import files
+from .. import files, processes
 from ..escaping import shown
 from ..journal.reading import Progress, silent
-from ..program import DEVICE, REFUSED, Failed
+from ..program import DEVICE, PROCESSORS, REFUSED, Failed
 from ..yaml_files import Value, document, guess, shortened
 from . import case_runner, cases_together, coverage, coverage_sets
 from .cases import Case
@@ -70,18 +68,18 @@ def reached_in(outcome: cases_together.Outcome, case: Case) -> Sets:
         raise Failed(f"{case.path}:{case.at.line}: {case.name}: {' '.join(str(missed).split())}", REFUSED) from missed
 
 
-def play_all(cases: list[Case], progress: Progress = silent) -> ByCase:
-    """Runs cases in parallel; returns what each reaches. Fails if one can't be judged."""
-    def reached(some: list[Case]) -> list[Sets]:
+def play_all(cases: list[Case], jobs: int = PROCESSORS, progress: Progress = silent) -> ByCase:
+    """Runs cases in so many processes; returns what each reaches. Fails if one can't be judged."""
+    def reached(part: range) -> list[Sets]:
+        some = cases[part.start:part.stop]
         with contextlib.closing(cases_together.play_all(some, why=True)) as outcomes:
             return [reached_in(outcome, case) for outcome, case in zip(outcomes, some)]
 
     found: ByCase = {}
-    with ThreadPoolExecutor(os.cpu_count()) as pool:
-        parts = [cases[at:at + TOGETHER] for at in range(0, len(cases), TOGETHER)]
-        for some, sets in zip(parts, pool.map(reached, parts)):
-            found |= {case.name: one for case, one in zip(some, sets)}
-            progress("cases", len(found), len(cases))
+    parts = processes.parts_of(len(cases), jobs, TOGETHER)
+    for part, sets in zip(parts, processes.each(reached, parts, jobs)):
+        found |= {cases[at].name: one for at, one in zip(part, sets)}
+        progress("cases", len(found), len(cases))
     return found
 
 
@@ -174,10 +172,10 @@ def judged(names: list[str], by_case: ByCase, folder: Path) -> Measured:
     return found
 
 
-def matrix(folder: Path, path: Path | None = None, progress: Progress = silent) -> Measured:
+def matrix(folder: Path, path: Path | None = None, jobs: int = PROCESSORS, progress: Progress = silent) -> Measured:
     """What the cases of a folder reach: run now, or from a file of `lab test --reached`."""
     cases = coverage.all_cases(folder)
-    return judged([case.name for case in cases], read(path) if path else play_all(cases, progress), folder)
+    return judged([case.name for case in cases], read(path) if path else play_all(cases, jobs, progress), folder)
 
 
 def by_text(by: list[str]) -> str:

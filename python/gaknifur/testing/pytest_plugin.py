@@ -32,6 +32,7 @@ def pytest_addoption(parser: pytest.Parser) -> None:
                     help="only results about this section of SUBSET-026 or its subsections; can be repeated")
     group.addoption("--feature", action="append", default=[], metavar="FEATURE", help="only cases of this feature")
     group.addoption("--replay", action="store_true", help="run each case with `etcs run` on a file, and examine and replay its image")
+    group.addoption("--jobs", metavar="N", type=int, default=1, help="processes on this machine in which cases are run")
     group.addoption("--keep", metavar="FOLDER", help="keep the image and report of each failed case in this new folder")
     group.addoption("--against", metavar="COMMAND", help="also run another unit, and compare and judge its answers (docs/howto/oracle.md)")
     group.addoption("--answer-within", metavar="SECONDS", type=float, default=other_unit.WITHIN_S, help="time limit for each answer of the other unit")
@@ -249,7 +250,8 @@ def pytest_collection_finish(session: pytest.Session) -> None:
     players = {id(item.player): item.player for item in session.items if isinstance(item, Item)}
     if players:
         why = session.config.stash.get(REACHES, None) is not None
-        together = cases_together.Together([one.case for one in players.values()], why, session.config.getoption("--replay"))
+        found, option = [one.case for one in players.values()], session.config.getoption
+        together = cases_together.Together(found, why, option("--replay"), option("--jobs"))
         session.config.add_cleanup(together.close)
         for one in players.values():
             one.together = together

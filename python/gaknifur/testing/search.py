@@ -1,7 +1,7 @@
 """Search random scenarios for one that breaks a property, and shrink it. docs/howto/searching.md explains how to use it.
 
 Scenarios are run by `etcs_lab play`, and judged by the records of their images, or by another unit's answers to them. Random ones run
-together, since those that are made don't depend on what is found. Hypothesis shrinks a scenario that breaks a property, and then each step that isn't needed is removed. The scenario is kept as a
+together and in several processes, since those that are made don't depend on what is found. Hypothesis shrinks a scenario that breaks a property, and then each step that isn't needed is removed. The scenario is kept as a
 test case.
 """
 import contextlib
@@ -14,11 +14,11 @@ from typing import Any
 import hypothesis
 from hypothesis import HealthCheck, Phase, settings
 
-from .. import program
+from .. import processes, program
 from ..etcs_run import CARRIED_OUT
 from ..journal import played_image
 from ..journal.reading import Json
-from ..play import AHEAD, ended, lives_of, play_images
+from ..playing import AHEAD, ended, lives_of, play_images
 from ..program import REFUSED, Failed
 from ..units import oracle
 from . import case_runner, decoding, properties
@@ -29,7 +29,7 @@ from .yaml_text import flow, quoted
 
 Lives = tuple[str, ...]
 SLOTS, TOGETHER = 128, 500
-"""The slots of an image, and the number of scenarios that run together."""
+"""The slots of an image, and the greatest number of scenarios that run together."""
 MOST_SHRINKING = 250
 """The greatest number of scenarios that are run to shrink one."""
 MOST_KEPT = 20_000
@@ -135,7 +135,7 @@ class Search:
     found: Found = field(init=False)
     seen: dict[Lives, bool] = field(default_factory=dict)
     """Whether each scenario breaks the property."""
-    left: int | None = None
+    left: int = MOST_SHRINKING
     """The number of scenarios that may still be run to shrink one."""
     first: Lives | None = None
     """The first scenario that broke it."""
@@ -143,25 +143,23 @@ class Search:
     def __post_init__(self) -> None:
         self.found = Found(self.of)
 
+    def take(self, scenarios: Lives, judged: int | None) -> None:
+        """Takes how many records of random lives were judged, None if they break the property. The first ones that do end the search."""
+        if self.first is None:
+            self.found.scenarios += 1
+            self.found.judged += judged or 0
+            self.seen[scenarios] = judged is None
+            self.first = scenarios if judged is None else None
+
     def is_broken(self, scenarios: Lives) -> bool:
-        """Whether lives break the property."""
+        """Whether lives break the property; counts those that are run to shrink a scenario."""
         if scenarios in self.seen:
             return self.seen[scenarios]
-        if self.left is not None:
-            self.left -= 1
-            if self.left < 0:
-                return False
-        records = self.records(scenarios)
-        try:
-            judged, broken = properties.judge(self.of, records), False
-        except Violated:
-            judged, broken = 0, True
-        if self.left is None:
-            self.found.scenarios += 1
-            self.found.judged += judged
-        self.seen[scenarios] = broken
-        self.first = self.first or (scenarios if broken else None)
-        return broken
+        self.left -= 1
+        if self.left < 0:
+            return False
+        self.seen[scenarios] = judged_by(self.of, self.records(scenarios)) is None
+        return self.seen[scenarios]
 
     def result(self, scenarios: Lives) -> Found:
         """The result for lives that break the property."""
@@ -171,6 +169,14 @@ class Search:
         except Violated as violated:
             self.found.lives, self.found.record, self.found.message = scenarios, records[violated.index], str(violated)
         return self.found
+
+
+def judged_by(one: Property, records: list[Json]) -> int | None:
+    """How many records a property judges; None if one of them breaks it."""
+    try:
+        return properties.judge(one, records)
+    except Violated:
+        return None
 
 
 def smaller(scenarios: Lives) -> list[Lives]:
@@ -206,26 +212,26 @@ def over_lives(made: Made, examples: int, seed: int, phases: tuple[Phase, ...], 
              report_multiple_bugs=False)(hypothesis.seed(seed)(hypothesis.given(lives(made))(each)))()
 
 
-def survey(wanted: list[Property], made: Made, records: Player, examples: int, seed: int) -> list[Search]:
-    """Searches random scenarios for all properties at once."""
-    searches = [Search(one, records) for one in wanted]
-    met: list[Lives] = []
+def survey(wanted: list[Property], made: Made, records: Player, examples: int, seed: int, jobs: int = 1) -> list[Search]:
+    """Searches random scenarios for all properties at once, in so many processes."""
+    met: dict[Lives, None] = {}
 
-    def judge() -> None:
-        records.play(met)
-        for scenarios in met:
-            for search in searches:
-                if search.first is None:
-                    search.is_broken(scenarios)
-        met.clear()
+    def meet(scenarios: Lives) -> None:
+        met[scenarios] = None
 
-    def each(scenarios: Lives) -> None:
-        met.append(scenarios)
-        if len(met) == TOGETHER:
-            judge()
+    over_lives(made, examples, seed, (Phase.generate,), meet)
+    many = list(met)
 
-    over_lives(made, examples, seed, (Phase.generate,), each)
-    judge()
+    def judged(part: range) -> list[list[int | None]]:
+        some = many[part.start:part.stop]
+        records.play(some)
+        return [[judged_by(one, records(scenarios)) for one in wanted] for scenarios in some]
+
+    searches, parts = [Search(one, records) for one in wanted], processes.parts_of(len(many), jobs, TOGETHER)
+    for part, found in zip(parts, processes.each(judged, parts, jobs)):
+        for at, counts in zip(part, found):
+            for search, count in zip(searches, counts):
+                search.take(many[at], count)
     return searches
 
 

@@ -1,5 +1,6 @@
 """Check that a journal is sound: the image is whole, a replay agrees, and the released outputs are those of the records."""
 from collections.abc import Iterable, Sequence
+from typing import Any
 
 from ..etcs_run import Released, output_of
 from ..journal.reading import Journal, Json
@@ -10,6 +11,10 @@ class Missed(Exception):
 
     def __init__(self, wanted: str, found: str, record: Json | None = None) -> None:
         super().__init__(f"expected: {wanted}\nfound:    {found}" + (f"\nrecord:   {record_text(record)}" if record else ""))
+
+    def __reduce__(self) -> tuple[Any, tuple[str]]:
+        """What a process sends to another one."""
+        return Missed.of, (str(self),)
 
     @classmethod
     def of(cls, message: str) -> "Missed":

@@ -4,21 +4,18 @@
 a case. Points run in several processes, each on an image of its own.
 """
 import contextlib
-import multiprocessing
-import os
 import re
 from collections.abc import Iterator, Sequence
-from concurrent.futures import ProcessPoolExecutor
 from dataclasses import dataclass, field
 from decimal import Decimal
 from itertools import product
 from pathlib import Path
-from typing import Any
 
 import yaml
 
+from .. import processes
 from ..journal.reading import Progress, silent
-from ..program import Failed
+from ..program import PROCESSORS
 from ..yaml_files import Value, document, guess, shortened
 from . import case_runner, cases, cases_together, mode_table, scenarios
 from .cases import CONDITION, DRIVEN, Case, Condition
@@ -27,8 +24,8 @@ PARAMETER = re.compile(r"\$(\w+)")
 RANGE = re.compile(r"(-?[0-9.]+)\.\.(-?[0-9.]+)(?: step ([0-9.]+))?")
 NAME = re.compile(r"[a-z][a-z0-9_]*")
 MOST_POINTS = 10_000
-PARTS, MOST_TOGETHER = 4, 64
-"""The number of parts of the points for each process, as far as there are enough, and the greatest number of points in a part, which run together."""
+MOST_TOGETHER = 64
+"""The greatest number of points that run together."""
 SWEEP, MORE = ("sweep", "for", "columns", "lives"), ("expected", "slots", *scenarios.SHARED)
 VALUES = tuple(name for name in CONDITION if name != "indications")
 Point = dict[str, str]
@@ -252,31 +249,11 @@ def result_of(point: Point, case: Case, columns: list[Outcome], outcome: cases_t
 
 # ---- all points
 
-process_sweep: list[tuple[Sweep, bool]] = []
-"""The sweep whose points this process runs, and whether they are replayed."""
-
-
-def in_process(points: Sequence[Point]) -> list[PointResult] | tuple[str, int]:
-    """Runs points in a process of their own; returns a failure as its message and status."""
-    try:
-        sweep, replay = process_sweep[-1]
-        return play(sweep, points, replay)
-    except Failed as failed:
-        return str(failed), failed.status
-
-
-def play_all(sweep: Sweep, workers: int | None = None, progress: Progress = silent, replay: bool = False) -> list[PointResult]:
-    """Runs all points. The processes are forked from this one, so that the sweep needn't be passed to them."""
+def play_all(sweep: Sweep, jobs: int = PROCESSORS, progress: Progress = silent, replay: bool = False) -> list[PointResult]:
+    """Runs all points, in so many processes."""
     points, found = sweep.points(), list[PointResult]()
-    context: Any = multiprocessing.get_context("fork")
-    count = workers or os.cpu_count() or 1
-    size = max(1, min(MOST_TOGETHER, len(points) // (PARTS * count)))
-    parts = [points[at:at + size] for at in range(0, len(points), size)]
-    with ProcessPoolExecutor(count, context, process_sweep.append, ((sweep, replay),)) as pool:
-        for results in pool.map(in_process, parts):
-            if isinstance(results, tuple):
-                pool.shutdown(cancel_futures=True)
-                raise Failed(*results)
-            found += results
-            progress("points", len(found), len(points))
+    parts = processes.parts_of(len(points), jobs, MOST_TOGETHER)
+    for results in processes.each(lambda part: play(sweep, points[part.start:part.stop], replay), parts, jobs):
+        found += results
+        progress("points", len(found), len(points))
     return found

@@ -1,15 +1,15 @@
 """Run many scenarios on empty journals in memory, with one process of `etcs_lab play`.
 
-    from gaknifur.play import play
-
-    for result in play({"id": number, "scenario": scenario} for number, scenario in enumerate(scenarios)):
+    for result in gaknifur.play({"id": number, "scenario": scenario} for number, scenario in enumerate(scenarios)):
         print(result["id"], result["status"], result["emergency_brakes"])
 
 Each is an input line of `etcs_lab play` (docs/reference/json.md, Many scenarios): an object with a member `scenario`, which may be a list of scenarios, and
 perhaps `id`, `cold`, `slots` and `sha256`; or only a scenario. The results are the objects that the program prints, in the order of the scenarios. A scenario that can't be run has a
 result too. `play_images` also returns the journal image of each scenario; campaigns, sweeps and test cases use it.
 """
+import contextlib
 import json
+import os
 import subprocess
 import tempfile
 import threading
@@ -129,17 +129,18 @@ def on_a_line(scenario: bytes) -> bytes | None:
     return scenario.translate(ON_A_LINE) if is_object else None
 
 
-def play_images(scenarios: Iterable[tuple[bytes, int]], folder: Path) -> Generator[tuple[Result, bytes], None, None]:
-    """The result with all outputs of each scenario or list of scenarios, which is given as its JSON on one line and its number of slots, and its
+def play_images(scenarios: Iterable[tuple[bytes, int]], folder: Path, outputs: Which = "all") -> Generator[tuple[Result, bytes], None, None]:
+    """The result of each scenario or list of scenarios, which is given as its JSON on one line and its number of slots, and its
     journal image, that of a list after its last life; no bytes if it can't be run. Until the next result is taken its images are in the folder
     (`image_in`), which contains no other image."""
-    for result in played((b'{"slots":%d,"scenario":%b}' % (slots, one) for one, slots in scenarios), 16, "all", folder):
+    for result in played((b'{"slots":%d,"scenario":%b}' % (slots, one) for one, slots in scenarios), 16, outputs, folder):
         paths = [image_in(folder, life) for life in lives_of(result) if life.get("image") is not None]
         try:
-            yield result, paths[-1].read_bytes() if paths else b""
+            yield result, bytes_of(paths[-1]) if paths else b""
         finally:
             for path in paths:
-                path.unlink(missing_ok=True)
+                with contextlib.suppress(FileNotFoundError):
+                    os.unlink(path)
 
 
 def lives_of(result: Result) -> list[Result]:
@@ -148,9 +149,15 @@ def lives_of(result: Result) -> list[Result]:
     return lives
 
 
-def image_in(folder: Path, result: Result) -> Path:
+def image_in(folder: Path, result: Result) -> str:
     """The file of a result's image."""
-    return folder / f"{result['image']}.image"
+    return f"{folder}/{result['image']}.image"
+
+
+def bytes_of(path: str) -> bytes:
+    """The bytes of a file, in half the time of a `Path`."""
+    with open(path, "rb", 0) as file:
+        return file.read()
 
 
 ENDED = {"done": "carried out", "stopped": "stopped {number} {name}", "refused": "refused {fault} {name}"}

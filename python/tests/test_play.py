@@ -154,6 +154,7 @@ class Rows(unittest.TestCase):
         self.assertEqual([(row["name"], row["ended"], row["events"], row["trips"], row["place_cm"], row["sound"]) for row in rows], [
             ("0", "carried out", 3, 1, 200, 1), ("1", "stopped 7 ClockFell", 3, 1, 200, 0), ("2", "refused 2 Shape", 0, None, None, 1),
             ("3", "failed: the image of this run has no valid first sector, or another size", None, None, None, 0)])
+        self.assertEqual((rows[0]["brake"], rows[0]["emergencies"]), ("emergency", 0))  # from the power-up on
         self.assertEqual(rows[1]["first_missed"].splitlines()[:2],
                          ["expected: the output of its record: event 2 mode TR level - brake emergency limit 40000 ind 8",
                           "found:    this output was released: event 2 mode FS level - brake emergency limit 40000 ind 8"])
@@ -167,6 +168,7 @@ class Rows(unittest.TestCase):
             answers = played_image.answers(image)
             self.assertEqual(answers.event[0], first)
             campaign_jobs.check_outputs(outputs, 5, answers, image)
+            self.assertTrue(campaign_jobs.are_outputs(outputs, answers))  # so that not all records are read
             for at in range(len(outputs)):
                 altered = [one | ({"limit_m_per_h": 7} if number == at else {}) for number, one in enumerate(outputs)]
                 with self.assertRaisesRegex(Missed, "the output of its record: event [1-5] mode (FS|TR) .*\n.* limit 7 "):

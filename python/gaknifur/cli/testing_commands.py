@@ -43,9 +43,11 @@ def write_case(given: SimpleNamespace, progress: Progress) -> int:
     return note(journal)
 
 
-WITHOUT_PYTHON = ("-c", os.devnull, "--noconftest", *(word for name in ("python", "unittest", "nose", "doctest")
-                                                      for word in ("-p", f"no:{name}")))
-"""Options of pytest by which it runs no code of the folder."""
+WITHOUT_PYTHON = ("-c", os.devnull, "--noconftest", *(f"-pno:{name}" for name in (
+    "python", "unittest", "nose", "doctest", "logging", "threadexception", "unraisableexception")))
+"""Options of pytest by which it runs no code of the folder, and doesn't watch what only such code could do, which takes a quarter of its time."""
+UNCAPTURED = "--capture=no"
+"""The option of pytest by which it captures nothing: a case prints nothing, and it takes another quarter."""
 PLUGIN = ("-p", "no:gaknifur", "-p", "gaknifur.testing.pytest_plugin")
 """Options of pytest that load the plugin once, also if it is installed and pytest would find it by itself."""
 WRITING = ("--log-file", "--basetemp", "--debug", "--pastebin")
@@ -106,16 +108,16 @@ def run_tests(given: SimpleNamespace, progress: Progress) -> None:
     files.check_all([one for one in (out, reached) if one])
     root = given.folder if given.folder.is_dir() else given.folder.parent
     selected = [f"--{name}={one}" for name in ("section", "feature") for one in getattr(given, name)]
-    selected += [f"--keep={given.keep}"] if given.keep else []
-    selected += ["--replay"] if given.replay else []
-    selected += [f"--against={given.against}", f"--answer-within={given.answer_within}"] if given.against else []
+    how = [f"--jobs={given.jobs}"] + ([f"--keep={given.keep}"] if given.keep else []) + (["--replay"] if given.replay else [])
+    how += [f"--against={given.against}", f"--answer-within={given.answer_within}"] if given.against else []
+    how += [] if given.python or given.against else [UNCAPTURED]
     for name in ("etcs", "etcs_lab"):  # pytest captures standard error, which says that they are unproved
         program.find(name)
     with results_in_xml(out) as (words, plugins):
         status = run_pytest(given.folder, [
             "-q", "--no-header", *PLUGIN, "-o", f"cache_dir={results_of(root)}", "-W",
             "ignore::pytest.PytestCacheWarning", f"--rootdir={root}", *([] if given.python else WITHOUT_PYTHON), *words,
-            str(given.folder), f"--jobs={given.jobs}", *selected, *given.others], plugins + ([reached_plugin.Reaches(reached)] if reached else []))
+            str(given.folder), *how, *selected, *given.others], plugins + ([reached_plugin.Reaches(reached)] if reached else []))
     if status == pytest.ExitCode.NO_TESTS_COLLECTED:
         why = "no test matches these options" if selected or given.others else "it contains no test case (NAME.case.yaml)"
         raise Failed(f"{given.folder}: {why}, so none was run", REFUSED)

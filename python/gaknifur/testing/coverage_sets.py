@@ -212,6 +212,7 @@ def group_name(group: str, way: bool | int) -> str:
 ACKNOWLEDGED = ("on_sight", "shunting", "level_0")
 
 
+@functools.cache
 def members() -> dict[str, list[str]]:
     """The sets in their order, each with its members."""
     all_modes, all_actions = modes(), actions()

@@ -75,6 +75,7 @@ def play_all(cases: list[Case], jobs: int = PROCESSORS, progress: Progress = sil
         with contextlib.closing(cases_together.play_all(some, why=True)) as outcomes:
             return [reached_in(outcome, case) for outcome, case in zip(outcomes, some)]
 
+    coverage_sets.members()  # (once, before processes are forked)
     found: ByCase = {}
     parts = processes.parts_of(len(cases), jobs, TOGETHER)
     for part, sets in zip(parts, processes.each(reached, parts, jobs)):

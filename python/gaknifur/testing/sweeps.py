@@ -252,6 +252,8 @@ def result_of(point: Point, case: Case, columns: list[Outcome], outcome: cases_t
 def play_all(sweep: Sweep, jobs: int = PROCESSORS, progress: Progress = silent, replay: bool = False) -> list[PointResult]:
     """Runs all points, in so many processes."""
     points, found = sweep.points(), list[PointResult]()
+    if "expected" in sweep.at.entries():
+        mode_table.mode_table()  # (once, before processes are forked)
     parts = processes.parts_of(len(points), jobs, MOST_TOGETHER)
     for results in processes.each(lambda part: play(sweep, points[part.start:part.stop], replay), parts, jobs):
         found += results

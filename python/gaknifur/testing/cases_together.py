@@ -18,7 +18,7 @@ from . import case_runner
 from .case_runner import Missed, Played
 from .cases import Case, Life
 
-LEAST_APART, MOST_APART = 32, 100
+LEAST_APART, MOST_APART = 400, 100
 """The least number of cases that several processes share, and the greatest number that one of them runs together."""
 
 

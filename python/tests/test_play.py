@@ -294,6 +294,13 @@ class Cases(unittest.TestCase):
         with patch.object(case_runner, "play", self.by_itself):
             self.assertEqual([one.image for one in cases_together.play_all(self.cases, replay=True)], [b"its image"] * 4)
 
+    def test_several_processes(self) -> None:
+        with patch.object(case_runner, "play", self.by_itself):
+            together = cases_together.Together(self.cases, False, True, 2)
+            self.addCleanup(together.close)
+            self.assertEqual([together.take(case).image for case in reversed(self.cases)], [b"its image"] * 4)
+        self.assertEqual(self.alone, [])  # other processes ran them
+
 
 class Sent(unittest.TestCase):
     """Errors that a process sends to another one."""

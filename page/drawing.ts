@@ -1,5 +1,6 @@
 // The picture of the signals of a window: speed and limit, the other axis, and bands of brake, mode, level and events.
-// Where there are more records than pixels, the least and the greatest of each column are drawn.
+// Where there are more than some hundred records, a signal is the area from the least to the greatest of each column:
+// a browser fills an area many times as fast as it strokes a line of a thousand points, and a dashed one most of all.
 import {bounds, steps} from "./chart";
 import {svg} from "./dom";
 import {modeWord} from "./shown";
@@ -17,6 +18,11 @@ const LANES = {
 },
       LANE = 14, LANES_AT = 276, LANES_HEIGHT = 74, HEAD = 18, BELOW = 42, MOST_DOTS = 300, MARK = 8, LETTER = 7,
       EACH_TICK = 90;
+/** How thick the lines are, as page.css has them. */
+const THICK = { "limit-line": 2, "speed-line": 2.5, "other-line": 1.5 };
+type Line = keyof typeof THICK;
+/** The columns of a dash with its gap, and of the dash. */
+const DASH = 10, DASHED = 7;
 /** How high a column's events are drawn, by their number. */
 const TICKS = [0, 6, 10, 10, LANE];
 
@@ -73,22 +79,22 @@ class Painter {
     private path(d: string, kind: string, { colour }: { colour: number } = { colour: 0 }): void {
         if (d) this.parts.push(svg("path", { d, class: colour ? `${kind} image-${colour}` : kind, fill: "none" }));
     }
-    private isSparse({ columns }: Layer): boolean { return columns.count <= 2 * this.inner; }
+    private isSparse({ columns }: Layer): boolean { return columns.count <= MOST_DOTS; }
 
     paint(): Element[] {
-        const { layers, unit } = this.scene, tops = layers.flatMap(({ columns: { speed, limit } }) =>
-            [...speed.high, ...limit.high].filter(Number.isFinite));
-        const most = 1.08 * Math.max(10_000, bounds(tops)[1]);
+        const { layers, unit } = this.scene, tops = layers.flatMap(({ columns: { speed, limit, ways } }) =>
+            [speed, limit, ways.speed].map(({ high }) => bounds(high)[1]));
+        const most = 1.08 * Math.max(10_000, ...tops);
         const main = (v: number): number => MAIN[1] - (MAIN[1] - MAIN[0]) * v / most;
-        for (const v of steps(0, most / 1000, 5)) {
-            this.path(`M${LEFT} ${main(1000 * v).toFixed(1)}h${this.inner}`, "grid");
-            this.text(LEFT - 6, main(1000 * v) + 4, "end", String(v));
-        }
+        const rules = steps(0, most / 1000, 5);
+        this.path(rules.map(v => `M${LEFT} ${main(1000 * v).toFixed(1)}h${this.inner}`).join(""), "grid");
+        for (const v of rules) this.text(LEFT - 6, main(1000 * v) + 4, "end", String(v));
         this.lives();
         layers.forEach((layer, n) => this.lanes(layer, this.layout.lanes[n] ?? 0));
         for (const layer of layers) {
-            this.line(layer, layer.signals.limit, layer.columns.limit, main, "limit-line", true);
-            this.line(layer, layer.signals.speed, layer.columns.speed, main, "speed-line", false);
+            const { signals: { limit, speed }, columns } = layer;
+            this.line(layer, limit, [columns.limit], main, "limit-line");
+            this.line(layer, speed, [columns.speed, columns.ways.speed], main, "speed-line");
         }
         this.other();
         for (const layer of layers) this.commands(layer);
@@ -117,24 +123,25 @@ class Painter {
 
     /** The other axis: the place over time, or the time over places. */
     private other(): void {
-        const { layers } = this.scene, isPlace = layers[0]?.axis.kind === "place", per = isPlace ? 1000 : 100;
-        const ends = layers.flatMap(({ columns: { other } }) => [...other.low, ...other.high].filter(Number.isFinite));
-        const [low, high] = bounds(ends), unit = isPlace ? "s" : "m";
+        const { layers } = this.scene, isPlace = layers[0]?.axis.kind === "place";
+        const bands = layers.map(({ columns: { other, ways } }) => [other, ways.other]);
+        const ends = bands.flat().flatMap(band => [bounds(band.low)[0], bounds(band.high)[1]]);
+        const [low, high] = bounds(ends.filter(Number.isFinite));
+        const [unit, per] = isPlace ? ["s", 1000] : high < 1e7 ? ["m", 100] : ["km", 100_000];
         const Y = (v: number): number => OTHER[1] - (OTHER[1] - OTHER[0]) * (v - low) / (high - low || 1);
         this.text(LEFT - 6, OTHER[0] + 8, "end", `${Math.round(high / per).toLocaleString("en")} ${unit}`);
         this.text(LEFT - 6, OTHER[1], "end", `${Math.round(low / per).toLocaleString("en")} ${unit}`);
         this.text(
             LEFT - 6, (OTHER[0] + OTHER[1]) / 2 + 6, "end", isPlace ? VIEW.lanes.moment : VIEW.lanes.place);
-        for (const layer of layers)
-            this.line(layer, isPlace ? layer.signals.moment : layer.signals.place, layer.columns.other, Y, "other-line",
-                false);
+        layers.forEach((layer, n) => this.line(layer, isPlace ? layer.signals.moment : layer.signals.place,
+            bands[n] ?? [], Y, "other-line"));
     }
 
-    /** A signal: each record where there are few, else the least and the greatest of each column. */
-    private line(
-        layer: Layer, values: Float64Array, band: Band, Y: (v: number) => number, kind: string, isHeld: boolean): void {
-        const { axis, columns } = layer, { from, to } = this.scene;
-        if (!this.isSparse(layer)) return this.path(this.dense(axis, band, Y), kind, layer);
+    /** A signal: each record where there are few, else the area of its columns. */
+    private line(layer: Layer, values: Float64Array, bands: Band[], Y: (v: number) => number, kind: Line): void {
+        const { axis } = layer, { from, to } = this.scene, isHeld = kind === "limit-line";
+        if (!this.isSparse(layer))
+            return this.path(areaOf(bands, Y, THICK[kind] / 2, isHeld), kind.replace("line", "area"), layer);
         let path = "", dots = "";
         for (const span of axis.spans) {
             const [first, end] = range(axis, span, from, to);
@@ -152,36 +159,7 @@ class Painter {
             }
         }
         this.path(path, kind, layer);
-        if (columns.count <= MOST_DOTS) this.path(dots, kind.replace("line", "dots"), layer);
-    }
-
-    /** The least and the greatest of each column; where both stay as they are, one line for several columns. */
-    private dense(axis: Axis, { low, high }: Band, Y: (v: number) => number): string {
-        const starts = new Set(axis.spans.map(span => Math.floor(this.X(span.low) - LEFT)));
-        let path = "", isDown = false, flat = NaN, held = -1;
-        const end = (): void => {
-            if (held >= 0) path += `H${LEFT + held + 0.5}`;
-            held = -1;
-        };
-        for (let c = 0; c < low.length; c++) {
-            if (starts.has(c)) {
-                end();
-                isDown = false;
-            }
-            const least = low[c] ?? 0, most = high[c] ?? 0;
-            if (least > most) continue;
-            if (isDown && least === most && least === flat) {
-                held = c;
-                continue;
-            }
-            end();
-            const top = Math.round(10 * Y(most)) / 10, bottom = Math.round(10 * Y(least)) / 10;
-            path += `${isDown ? "L" : "M"}${LEFT + c + 0.5} ${top}V${bottom}`;
-            flat = least === most ? least : NaN;
-            isDown = true;
-        }
-        end();
-        return path;
+        this.path(dots, kind.replace("line", "dots"), layer);
     }
 
     /** A band of states, a path for each; those of no interest are left out. */
@@ -222,30 +200,33 @@ class Painter {
     /** Where a brake is commanded; of several in a few pixels the worst. */
     private commands(layer: Layer): void {
         const { commands, axis } = layer, worst = new Map<number, number>(), isSparse = this.isSparse(layer);
+        const paths = { service: "", emergency: "" };
         for (const { index, brake } of commands) {
-            const x = this.X(axis.x[index] ?? NaN),
-                  at = Math.round(isSparse ? 10 * x : MARK * 10 * Math.round(x / MARK)) / 10;
-            if (at >= LEFT && at <= LEFT + this.inner) worst.set(at, Math.max(worst.get(at) ?? 0, brake));
+            const place = axis.x[index] ?? NaN, x = this.X(place);
+            if (!(place >= this.scene.from && place <= this.scene.to)) continue;
+            const at = isSparse ? Math.round(10 * x) / 10 : MARK * Math.round(x / MARK);
+            if (brake > (worst.get(at) ?? 0)) worst.set(at, brake);
         }
         for (const [x, brake] of worst)
-            this.parts.push(svg("path",
-                { d: `M${x} ${MAIN[1] - 9} l-5 9 h10 z`, class: brake === 2 ? "mark emergency" : "mark service" }));
+            paths[brake === 2 ? "emergency" : "service"] += `M${x} ${MAIN[1] - 9}l-5 9h10z`;
+        for (const [kind, d] of Object.entries(paths)) this.path(d, `mark ${kind}`);
     }
 
     /** Where each life begins, and the labels of the axis; where lives cover one another, those of the longest. */
     private lives(): void {
         const { layers, from, to } = this.scene, covered: [number, number][] = [];
         const all = layers.flatMap(layer => layer.axis.spans.map(span => ({ layer, span })));
-        let named = -Infinity, drawn = -Infinity;
+        let named = -Infinity, drawn = -Infinity, lines = "";
         for (const { layer: { axis, letter }, span: { life, low, high } } of sortedBy(all, ({ span }) => span.low)) {
             if (high < from || low > to) continue;
             const x = this.X(low), left = Math.max(x, LEFT), isUtc = layers.length > 1 && axis.kind === "utc";
             if (x >= LEFT && x - drawn > 3)
-                this.path(`M${(drawn = x).toFixed(1)} ${TOP}V${this.layout.bottom}`, "life-line");
+                lines += `M${(drawn = x).toFixed(1)} ${TOP}V${this.layout.bottom}`;
             if ((all.length > layers.length || isUtc) && left - named > (isUtc ? 60 : 46))
                 this.text((named = left) + 3, TOP - 8, "start",
                     isUtc ? VIEW.lifeOf(letter, life.number) : VIEW.life(life.number));
         }
+        this.path(lines, "life-line");
         for (const { layer, span: { life, offset, low, high } } of sortedBy(all, ({ span }) => span.low - span.high)) {
             const seen: [number, number] = [Math.max(low, from), Math.min(high, to)];
             if (this.X(seen[1]) - this.X(seen[0]) < EACH_TICK) continue;
@@ -262,12 +243,47 @@ class Painter {
         const { per } = this.scene.layers[0]?.axis ?? { per: 1 }, about = Math.floor((right - left) / EACH_TICK);
         const { bottom } = this.layout;
         if (about < 1) return;
+        let marks = "";
         for (const tick of steps(low / per, high / per, about)) {
             const x = this.X(tick * per + offset);
-            this.path(`M${x.toFixed(1)} ${bottom}v4`, "grid");
+            marks += `M${x.toFixed(1)} ${bottom}v4`;
             this.text(x, bottom + 17, "middle", label(tick * per), "axis tick-label");
         }
+        this.path(marks, "grid");
     }
+}
+
+/**
+ * The area that a signal covers: of each column from its least to its greatest, made half a line thicker either way.
+ * One that is dashed has gaps where it stays as it is.
+ */
+function areaOf(bands: Band[], Y: (v: number) => number, half: number, isDashed: boolean): string {
+    const columns = bands[0]?.low.length ?? 0, round = (y: number): number => Math.round(10 * y) / 10;
+    let path = "", back = "", top = NaN, bottom = NaN;
+    /** Goes to the right end, down, and back along the bottom. */
+    const end = (column: number): void => {
+        if (back) path += `H${LEFT + column}V${bottom}${back}z`;
+        back = "";
+    };
+    for (let c = 0; c < columns; c++) {
+        let least = Infinity, most = -Infinity;
+        for (const { low, high } of bands) {
+            least = Math.min(least, low[c] ?? least);
+            most = Math.max(most, high[c] ?? most);
+        }
+        if (least > most || isDashed && least === most && c % DASH >= DASHED) {
+            end(c);
+            continue;
+        }
+        const up = round(Y(most) - half), down = round(Y(least) + half);
+        if (!back) path += `M${LEFT + c} ${up}`;
+        else if (up !== top) path += `H${LEFT + c}V${up}`;
+        if (!back) back = `H${LEFT + c}`;
+        else if (down !== bottom) back = `H${LEFT + c}V${bottom}${back}`;
+        [top, bottom] = [up, down];
+    }
+    end(columns);
+    return path;
 }
 
 function sortedBy<T>(all: T[], key: (one: T) => number): T[] {

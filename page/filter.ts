@@ -35,13 +35,14 @@ export class Filter {
             mode: value => MODES[value]?.[1] ?? String(value)
         };
         for (const part of PARTS) {
-            const found = new Set<number>(), wanted = this.wanted[part];
+            const has = new Uint8Array(256), wanted = this.wanted[part];
             for (const signals of all)
-                for (const value of new Set(signals[part])) found.add(value);
+                for (const value of signals[part]) has[value] = 1;
+            const found = [...has.keys()].filter(value => has[value]);
             this.select(part).replaceChildren(make("option", { value: "" }, VIEW.any[part]),
-                ...[...found].sort((one, other) => one - other)
-                    .map(value => make("option", { value, selected: value === wanted }, names[part](value))));
-            if (wanted !== undefined && !found.has(wanted)) delete this.wanted[part];
+                ...found.map(
+                    value => make("option", { value, selected: value === wanted }, names[part](value))));
+            if (wanted !== undefined && !found.includes(wanted)) delete this.wanted[part];
         }
         this.reckon();
     }

@@ -266,12 +266,13 @@ export class Viewer {
             if (index === null) return VIEW.nothingAt(letter);
             return VIEW.ofImage(letter, count(image.records?.event(index) ?? 0), cursorText(signals, index));
         });
-        show("viewer-at", ...says.map(text => make("p", {}, text)));
+        if (says.join() !== [...at("viewer-at").children].map(({ textContent }) => textContent).join())
+            show("viewer-at", ...says.map(text => make("p", {}, text)));
         const { width } = this.root.viewBox.baseVal;
         this.cursor.setAttribute("visibility", isSeen ? "visible" : "hidden");
         if (!isSeen) return;
-        const at = LEFT + plotWidth(width) * (x - this.from) / (this.to - this.from);
-        for (const end of ["x1", "x2"]) this.cursor.setAttribute(end, at.toFixed(1));
+        const place = LEFT + plotWidth(width) * (x - this.from) / (this.to - this.from);
+        for (const end of ["x1", "x2"]) this.cursor.setAttribute(end, place.toFixed(1));
         this.cursor.setAttribute("y2", String(layoutOf(layers.length).bottom));
     }
 

@@ -1,10 +1,24 @@
 """A browser with the page open, and calls of the page, for the tests and the pictures of the page."""
 import base64
+import os
 import time
 from pathlib import Path
 from typing import Any, Self
 
 SECONDS = 30
+
+
+def processor_s(above: int) -> float:
+    """The seconds that the processes below a process have run for on any processor."""
+    found = 0.0
+    for task in Path(f"/proc/{above}/task").glob("*/children"):
+        for child in task.read_text(encoding="ascii").split():
+            try:
+                fields = Path(f"/proc/{child}/stat").read_text(encoding="ascii").rpartition(")")[2].split()
+                found += sum(map(int, fields[11:13])) / os.sysconf("SC_CLK_TCK") + processor_s(int(child))
+            except FileNotFoundError:  # (it has ended)
+                pass
+    return found
 
 
 class Browser:

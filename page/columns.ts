@@ -53,9 +53,10 @@ function widen({ low, high }: Band, column: number, least: number, most: number)
     if (most > (high[column] ?? 0)) high[column] = most;
 }
 
+/** Adds a mode or level; one that a record doesn't have changes nothing. */
 function merge(states: Uint8Array, at: number, state: number): void {
     const before = states[at];
-    if (before !== state) states[at] = before === NOTHING ? state : SEVERAL;
+    if (state !== NOTHING && before !== state) states[at] = before === NOTHING ? state : SEVERAL;
 }
 
 function worsen(brakes: Uint8Array, at: number, brake: number): void {

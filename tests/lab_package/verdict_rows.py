@@ -1,9 +1,9 @@
 #!/usr/bin/env python3
 """What each command of ./lab says of a journal whose replay differs, and of one that is implausible: status 4, a sentence, and a sign in
 what it writes. And of images with one altered byte of a record or a head (tests/lab/altered_fields.md): the commands take them in turn, and
-each says the sentence that follows from the plain replay, with status 4.
+each says the sentence that follows from the plain replay, with status 4. tests/page/braked.py shows such images to the page.
 
-    tests/lab_package/verdict_rows.py ETCS_LAB [COUNT]
+    tests/lab_package/verdict_rows.py ETCS_LAB [COUNT [all]]    so many altered images; with `all`, each of them to every command
 """
 import contextlib
 import io
@@ -124,10 +124,15 @@ def wanted(data):
     return "; ".join([LOST] * is_lost + differs), bool(differs)
 
 
-def every_command(rows, room, count):
-    """An image with one altered byte for each command in turn, over and over."""
+def altered_images(count):
+    """So many images with one altered byte of a record or a head."""
     images = [data for part, _, _, data in altered_fields() if part]
-    some, turns, differ = images[::max(len(images) // count, 1)][:count], itertools.cycle(COMMANDS), 0
+    return images[::max(len(images) // count, 1)][:count]
+
+
+def every_command(rows, room, count, is_all):
+    """An image with one altered byte for each command in turn, over and over; or each image for all commands."""
+    some, turns, differ = altered_images(count), itertools.cycle(COMMANDS), 0
     for number, data in enumerate(some):
         sentence, is_difference = wanted(data)
         differ += is_difference
@@ -136,8 +141,8 @@ def every_command(rows, room, count):
         at = room / f"altered-{number}"
         at.mkdir()
         (at / "image").write_bytes(data)
-        words = [next(turns).split()]
-        words += [next(turns).split()] if words[0][0] == "seal" else []
+        words = [one.split() for one in COMMANDS] if is_all else [next(turns).split()]
+        words += [next(turns).split()] if not is_all and words[0][0] == "seal" else []
         for name, *files in words:
             _, said, status = run(name, *(at / file for file in files))
             if name == "capture" and "the journal has no telegram" in said:
@@ -154,7 +159,7 @@ def main(words):
         altered(rows, room)
         implausible(rows, room)
         honest(rows, room)
-        every_command(rows, room, int(words[1]) if len(words) > 1 else COUNT)
+        every_command(rows, room, int(words[1]) if len(words) > 1 else COUNT, "all" in words[2:])
     return rows.end(f"verdicts of a journal: {rows.count} comparisons")
 
 

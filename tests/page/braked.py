@@ -3,6 +3,7 @@ import csv
 import io
 import json
 import random
+import sys
 from pathlib import Path
 from typing import Any
 
@@ -13,7 +14,10 @@ from gaknifur.journal import verdict as verdicts
 from handing import CATCH, TEXT
 from pandas import NA
 
-TRIED = 25
+sys.path.append(str(Path(__file__).resolve().parents[1] / "lab_package"))
+from verdict_rows import altered_images, wanted as wanted_of  # noqa: E402
+
+TRIED, ALTERED = 25, 40
 ENTRIES: list[Any] = [{"driver": [1, "IC 704"]}, {"driver": [4, 1]}, {"driver": [3, 20000, 160000, 70, 2000, 15]}, {"driver": [6]}]
 STOPS = ((1000, 830, 30000), (2000, 1250, 52000), (3000, 1440, 52000), (4000, 1300, 44000), (5000, 1100, 35000), (6000, 850, 26000), (7000, 500, 12000),
          (8000, 150, 0))
@@ -119,6 +123,22 @@ def agrees(browser: Browser, _page: Path, folder: Path) -> int:
     return rows
 
 
+def altered_fields(browser: Browser, _page: Path, folder: Path, count: int = ALTERED) -> int:
+    """Images with one altered byte of a record or a head: the verdict is the sentence that follows from the plain replay, as for each command of ./lab."""
+    for number, data in enumerate(altered_images(count)):
+        path = folder / f"image{number}"
+        path.write_bytes(data)
+        sentence, _ = wanted_of(data)
+        found = "; ".join(browser.ask(path)["verdict"])
+        assert found == sentence, (number, found, sentence)
+    return count
+
+
+def altered_fields_long(browser: Browser, page: Path, folder: Path) -> int:
+    """400 of them."""
+    return altered_fields(browser, page, folder, 400)
+
+
 def speeds(browser: Browser, _page: Path, folder: Path) -> int:
     """The speed at each record is that of the package's table. It is unknown after an overwritten beginning until a reading comes, at each place that shows it."""
     path, dice, count = folder / "image", random.Random(3), 0
@@ -143,4 +163,5 @@ def speeds(browser: Browser, _page: Path, folder: Path) -> int:
     return count
 
 
-CHECKS = {"agrees": (agrees, 60), "braked": (braked, 30), "verdict": (verdict, 4), "speeds": (speeds, 100)}
+CHECKS = {"agrees": (agrees, 60), "braked": (braked, 30), "verdict": (verdict, 4), "altered_fields": (altered_fields, ALTERED), "speeds": (speeds, 100)}
+LONG = {"altered_fields_long": (altered_fields_long, 400)}

@@ -1,7 +1,7 @@
 #!/usr/bin/python3 -IB
 """The page of tools/page in headless Chromium, along with the programs `etcs` and `etcs_lab` and the library for C.
 
-    tests/page/check.py PAGE [NAME..]    run all checks of a page, or those of these names; `opens_long`, `fluid_long` and `fluid_two_long` run only by their names
+    tests/page/check.py PAGE [NAME..]    run all checks of a page, or those of these names; those that end with `_long` run only by their names
 
 Where GAKNIFUR_BROWSER is `firefox`, run them in Firefox, except those that need Chromium's driver. The last line has the number of comparisons.
 """
@@ -32,7 +32,7 @@ import several  # noqa: E402
 from browsing import Browser  # noqa: E402
 
 CHECKS = {**desks.CHECKS, **own.CHECKS, **apart.CHECKS, **asking.CHECKS, **days.CHECKS, **briefs.CHECKS, **braked.CHECKS, **first.CHECKS, **charts.CHECKS, **manners.CHECKS, **guarded.CHECKS, **implausible.CHECKS, **handing.CHECKS, **paper.CHECKS, **several.CHECKS, **quick.CHECKS}
-ALL = CHECKS | quick.LONG
+ALL = CHECKS | braked.LONG | quick.LONG
 CHROMIUM_ALONE = ("edited",)
 
 

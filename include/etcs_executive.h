@@ -1,8 +1,8 @@
 /**
  * @file
  * A cyclic executive around one unit, for C99 and C++, with an operating system or without: conditions 10 to 14, 21 and 23
- * of docs/explain/integration.md as code. It is of this header alone; there is nothing to link but the library of
- * etcs_unit.h. It takes no memory but an etcs_executive (16 kB), and that of the unit.
+ * of docs/explain/integration.md as code. There is nothing to link but the library of etcs_unit.h. It takes no memory but an
+ * etcs_executive (16 kB), and that of the unit.
  *
  *     static etcs_executive executive;
  *     static const etcs_equipment equipment = {..};
@@ -30,24 +30,15 @@
 #ifndef ETCS_EXECUTIVE_H
 #define ETCS_EXECUTIVE_H
 
-#include "etcs_unit.h"
+#include "etcs_channel.h"
+#include "etcs_self_test.h"
 
 #ifdef __cplusplus
 extern "C" {
 #endif
 
-/** The bytes of what two channels compare in a cycle. */
-#define ETCS_CHANNEL_BYTES 56
-
 /** How often a cycle flushes, at most: so it takes up to 64 inputs. */
 #define ETCS_EXECUTIVE_FLUSHES 8
-
-/** The sectors of the self-test's medium: a ring of two slots. */
-#define ETCS_SELF_TEST_SECTORS 13
-
-/** The digest of the self-test: of the outputs of two lives, of each write and sync, and of the medium after them, as the
- * reference model has them (tests/unit/self_test.py). */
-#define ETCS_SELF_TEST_DIGEST UINT64_C(0xfe626cfa9c22a7c8)
 
 /** What each byte of the guard below the stack is painted with. */
 #define ETCS_STACK_PAINT 0xA5u
@@ -63,13 +54,13 @@ enum etcs_executive_fault {
 /** What the executive calls of the equipment. Each function gets `of`, those of the medium `medium`. Calls that answer an int
  * answer 1, or 0 where they failed. */
 typedef struct {
-    void *of;             /**< handed to each function but those of the medium */
-    void *medium;         /**< handed to the functions of the medium */
-    uint64_t sectors;     /**< how many sectors the medium has */
-    uint64_t cycle_us;    /**< the length of a cycle */
-    uint64_t late_us;     /**< a cycle is late where it ends so long after it was due, or longer */
-    uint8_t *guard;       /**< the lowest bytes of the stack, or bytes below it that nothing else uses; NULL where the system guards the stack */
-    size_t guard_bytes;   /**< how many: more than any frame skips */
+    void *of;           /**< handed to each function but those of the medium */
+    void *medium;       /**< handed to the functions of the medium */
+    uint64_t sectors;   /**< how many sectors the medium has */
+    uint64_t cycle_us;  /**< the length of a cycle */
+    uint64_t late_us;   /**< a cycle is late where it ends so long after it was due, or longer */
+    uint8_t *guard;     /**< the lowest bytes of the stack, or bytes below it that nothing else uses; NULL: the system guards it */
+    size_t guard_bytes; /**< how many: more than any frame skips */
 
     /** Reads a sector, ETCS_UNIT_SECTOR bytes, from the medium itself. */
     int (*read_sector)(void *medium, uint64_t sector, uint8_t *bytes);
@@ -104,11 +95,10 @@ typedef struct {
     uint64_t requests_digest; /**< of the requests that this cycle carried out */
     uint32_t fault;           /**< the first fault (enum etcs_unit_status or enum etcs_executive_fault), or OK */
     uint32_t released;        /**< how many outputs this cycle released */
-    uint8_t own[ETCS_CHANNEL_BYTES];   /**< what this channel compared last */
-    uint8_t other[ETCS_CHANNEL_BYTES]; /**< what the other channel sent of it */
-    uint8_t bytes[ETCS_UNIT_REQUEST_BYTES];    /**< of the request that is carried out */
-    uint8_t test_medium[ETCS_SELF_TEST_SECTORS][ETCS_UNIT_SECTOR]; /**< the ring of the self-test */
-    uint32_t test_step;                        /**< how far the self-test is */
+    uint8_t own[ETCS_CHANNEL_BYTES];        /**< what this channel compared last */
+    uint8_t other[ETCS_CHANNEL_BYTES];      /**< what the other channel sent of it */
+    uint8_t bytes[ETCS_UNIT_REQUEST_BYTES]; /**< of the request that is carried out */
+    etcs_self_test test;                    /**< the train of the self-test */
 } etcs_executive;
 
 /** Returns the name of a fault, without ETCS_EXECUTIVE_ or ETCS_UNIT_; "unknown" for other numbers. */
@@ -117,81 +107,41 @@ static inline const char *etcs_executive_fault_name(uint32_t fault) {
     return ((fault > 300u) && (fault < 305u)) ? names[fault - 301u] : etcs_status_name(fault);
 }
 
-/* ---- digests: FNV-1a of 64 bits. Each step maps digests to digests one to one, so what differs in one byte has another digest */
-
-static inline uint64_t etcs_digest_byte_(uint64_t digest, uint8_t byte) {
-    return (digest ^ byte) * UINT64_C(1099511628211);
-}
-
-static inline uint64_t etcs_digest_begin_(void) {
-    return UINT64_C(14695981039346656037);
-}
-
-/* Adds a number, its lowest byte first, on any machine. */
-static inline uint64_t etcs_digest_number_(uint64_t digest, uint64_t number) {
-    for (unsigned byte = 0; byte < 8u; byte++) {
-        digest = etcs_digest_byte_(digest, (uint8_t)(number >> (8u * byte)));
-    }
-    return digest;
-}
-
-static inline uint64_t etcs_digest_bytes_(uint64_t digest, const uint8_t *bytes, uint64_t len) {
-    for (uint64_t i = 0; i < len; i++) {
-        digest = etcs_digest_byte_(digest, bytes[i]);
-    }
-    return digest;
-}
-
-static inline uint64_t etcs_digest_output_(uint64_t digest, const etcs_unit_output *output) {
-    const uint64_t small = output->mode | ((uint64_t)output->level << 8) | ((uint64_t)output->brake << 16) | ((uint64_t)output->indications << 24);
-    return etcs_digest_number_(etcs_digest_number_(digest, output->event), output->limit_m_per_h | (small << 32));
-}
-
-/* ---- a flush */
-
-/* From here on the emergency brake is commanded, whatever was released. */
+/* Keeps the first fault: from then on the emergency brake is commanded, whatever was released. */
 static inline void etcs_executive_fail_(etcs_executive *executive, uint32_t fault) {
-    if (executive->fault == (uint32_t)ETCS_UNIT_OK) {
-        executive->fault = fault;
-    }
+    executive->fault = (executive->fault == (uint32_t)ETCS_UNIT_OK) ? fault : executive->fault;
     if (executive->fault != (uint32_t)ETCS_UNIT_OK) {
         executive->command.brake = (uint8_t)ETCS_BRAKE_EMERGENCY;
     }
 }
 
-/* Reads a sector, and hands it in. */
-static inline uint32_t etcs_executive_read_(etcs_executive *executive, uint64_t sector) {
-    const etcs_equipment *const equipment = executive->equipment;
-    if (equipment->read_sector(equipment->medium, sector, executive->bytes) == 0) {
-        (void)etcs_unit_fail(&executive->unit);
-        return (uint32_t)ETCS_UNIT_FAILED;
-    }
-    return etcs_unit_provide(&executive->unit, sector, executive->bytes, ETCS_UNIT_SECTOR);
-}
+/* ---- a flush */
 
-/* Carries out a write or a sync. */
-static inline uint32_t etcs_executive_write_(etcs_executive *executive, const etcs_unit_request_info *request) {
+/* Carries out one request on the medium, and reports it to the unit. */
+static inline uint32_t etcs_executive_do_(etcs_executive *executive, const etcs_unit_request_info *request) {
     const etcs_equipment *const equipment = executive->equipment;
-    uint64_t digest = etcs_digest_number_(executive->requests_digest, request->kind);
-    digest = etcs_digest_number_(etcs_digest_number_(digest, request->sector), request->sectors);
-    executive->requests_digest = etcs_digest_bytes_(digest, executive->bytes, request->sectors * ETCS_UNIT_SECTOR);
-    if (equipment->carry_out(equipment->medium, request, executive->bytes) == 0) {
+    const int is_read = request->kind == (uint64_t)ETCS_REQUEST_READ;
+    if (is_read == 0) {
+        uint64_t digest = etcs_digest_number_(executive->requests_digest, request->kind);
+        digest = etcs_digest_number_(etcs_digest_number_(digest, request->sector), request->sectors);
+        executive->requests_digest = etcs_digest_bytes_(digest, executive->bytes, request->sectors * ETCS_UNIT_SECTOR);
+    }
+    if (((is_read != 0) ? equipment->read_sector(equipment->medium, request->sector, executive->bytes)
+                        : equipment->carry_out(equipment->medium, request, executive->bytes)) == 0) {
         (void)etcs_unit_fail(&executive->unit);
         return (uint32_t)ETCS_UNIT_FAILED;
     }
-    return etcs_unit_done(&executive->unit);
+    return (is_read != 0) ? etcs_unit_provide(&executive->unit, request->sector, executive->bytes, ETCS_UNIT_SECTOR)
+                          : etcs_unit_done(&executive->unit);
 }
 
 /* Carries out what is to be done, one request after the other, at power-up and in each flush. */
 static inline uint32_t etcs_executive_carry_out_(etcs_executive *executive) {
     etcs_unit_request_info request;
-    uint32_t status;
-    while ((status = etcs_unit_request(&executive->unit, &request, executive->bytes, sizeof executive->bytes)) == (uint32_t)ETCS_UNIT_OK) {
-        status = (request.kind == (uint64_t)ETCS_REQUEST_READ) ? etcs_executive_read_(executive, request.sector)
-                                                               : etcs_executive_write_(executive, &request);
-        if (status != (uint32_t)ETCS_UNIT_OK) {
-            break;
-        }
+    uint32_t status = (uint32_t)ETCS_UNIT_OK;
+    while (status == (uint32_t)ETCS_UNIT_OK) {
+        status = etcs_unit_request(&executive->unit, &request, executive->bytes, sizeof executive->bytes);
+        status = (status == (uint32_t)ETCS_UNIT_OK) ? etcs_executive_do_(executive, &request) : status;
     }
     return (status == (uint32_t)ETCS_UNIT_NO_SUCH_REQUEST) ? (uint32_t)ETCS_UNIT_OK : status;
 }
@@ -217,6 +167,7 @@ static inline uint32_t etcs_executive_release_(etcs_executive *executive) {
 /* Takes the inputs and flushes them, again where there are more; the most restrictive brake of all of them is commanded. */
 static inline uint32_t etcs_executive_flush_(etcs_executive *executive) {
     const etcs_equipment *const equipment = executive->equipment;
+    const uint32_t full = (uint32_t)ETCS_UNIT_PENDING_FULL;
     uint8_t strictest = (uint8_t)ETCS_BRAKE_NONE;
     uint32_t flushes = 0, taken, status;
     executive->released = 0;
@@ -224,20 +175,16 @@ static inline uint32_t etcs_executive_flush_(etcs_executive *executive) {
     do {
         taken = equipment->take_inputs(equipment->of, &executive->unit);
         flushes++;
-        status = ((taken == (uint32_t)ETCS_UNIT_PENDING_FULL) && (flushes < (uint32_t)ETCS_EXECUTIVE_FLUSHES)) ? (uint32_t)ETCS_UNIT_OK : taken;
-        if (status == (uint32_t)ETCS_UNIT_OK) {
-            status = etcs_unit_prepare(&executive->unit);
-        }
-        if (status == (uint32_t)ETCS_UNIT_OK) {
-            status = etcs_executive_release_(executive);
-        }
+        status = ((taken == full) && (flushes < (uint32_t)ETCS_EXECUTIVE_FLUSHES)) ? (uint32_t)ETCS_UNIT_OK : taken;
+        status = (status == (uint32_t)ETCS_UNIT_OK) ? etcs_unit_prepare(&executive->unit) : status;
+        status = (status == (uint32_t)ETCS_UNIT_OK) ? etcs_executive_release_(executive) : status;
         strictest = (executive->command.brake > strictest) ? executive->command.brake : strictest;
-    } while ((status == (uint32_t)ETCS_UNIT_OK) && (taken == (uint32_t)ETCS_UNIT_PENDING_FULL));
+    } while ((status == (uint32_t)ETCS_UNIT_OK) && (taken == full));
     executive->command.brake = strictest;
     return status;
 }
 
-/* ---- the stack */
+/* ---- what a cycle checks */
 
 static inline void etcs_executive_paint_(const etcs_equipment *equipment) {
     volatile uint8_t *const guard = equipment->guard;
@@ -246,137 +193,45 @@ static inline void etcs_executive_paint_(const etcs_equipment *equipment) {
     }
 }
 
-static inline int etcs_executive_guard_is_whole_(const etcs_equipment *equipment) {
+static inline uint32_t etcs_executive_check_stack_(const etcs_equipment *equipment) {
     const volatile uint8_t *const guard = equipment->guard;
-    int is_whole = 1;
-    for (size_t i = 0; (guard != NULL) && (i < equipment->guard_bytes); i++) {
-        is_whole = (guard[i] == (uint8_t)ETCS_STACK_PAINT) ? is_whole : 0;
-    }
-    return is_whole;
-}
-
-/* ---- two channels */
-
-static inline void etcs_channel_put_(uint8_t *bytes, uint64_t number) {
-    for (unsigned byte = 0; byte < 8u; byte++) {
-        bytes[byte] = (uint8_t)(number >> (8u * byte));
-    }
-}
-
-/* What this channel answers in this cycle, in the order of enum etcs_channel_part. */
-static inline void etcs_channel_fill_(etcs_executive *executive) {
-    const etcs_unit_output *const command = &executive->command;
-    etcs_unit_state_info state;
-    uint64_t digest = etcs_digest_begin_();
-    if (etcs_unit_state(&executive->unit, &state) == (uint32_t)ETCS_UNIT_OK) {
-        const uint64_t numbers[] = {state.requests, state.done, state.held, state.has_failed, state.pending, state.moment_ms, (uint64_t)state.front_cm, state.uncertainty_cm};
-        digest = etcs_digest_output_(digest, &state.last);
-        for (unsigned i = 0; i < (unsigned)(sizeof numbers / sizeof numbers[0]); i++) {
-            digest = etcs_digest_number_(digest, numbers[i]);
-        }
-    }
-    etcs_channel_put_(&executive->own[0], executive->cycles);
-    etcs_channel_put_(&executive->own[8], executive->fault);
-    etcs_channel_put_(&executive->own[16], command->limit_m_per_h | ((uint64_t)command->mode << 32) | ((uint64_t)command->level << 40)
-                                               | ((uint64_t)command->brake << 48) | ((uint64_t)command->indications << 56));
-    etcs_channel_put_(&executive->own[24], command->event);
-    etcs_channel_put_(&executive->own[32], executive->outputs_digest);
-    etcs_channel_put_(&executive->own[40], executive->requests_digest);
-    etcs_channel_put_(&executive->own[48], digest);
-}
-
-/** What two channels compare, in this order, 8 bytes each, the lowest byte first. */
-enum etcs_channel_part {
-    ETCS_CHANNEL_CYCLE = 0,    /**< the number of the cycle */
-    ETCS_CHANNEL_FAULT = 1,    /**< the first fault */
-    ETCS_CHANNEL_COMMAND = 2,  /**< limit, mode, level, brake and indications that this channel would obey */
-    ETCS_CHANNEL_EVENT = 3,    /**< the number of the newest event that was released */
-    ETCS_CHANNEL_OUTPUTS = 4,  /**< the digest of all outputs of the cycle */
-    ETCS_CHANNEL_REQUESTS = 5, /**< the digest of all writes and syncs of the cycle, with their bytes */
-    ETCS_CHANNEL_STATE = 6,    /**< the digest of etcs_unit_state */
-    ETCS_CHANNEL_SAME = 7      /**< nothing differs */
-};
-
-/** Returns the first part in which two channels differ (enum etcs_channel_part). Call it after a fault with `own` and `other`
- * of the executive, to say what was different. */
-static inline uint32_t etcs_channel_difference(const uint8_t *own, const uint8_t *other) {
-    uint32_t at = 0;
-    while ((at < (uint32_t)ETCS_CHANNEL_BYTES) && (own[at] == other[at])) {
-        at++;
-    }
-    return at / 8u;
-}
-
-static inline uint32_t etcs_channel_compare_(etcs_executive *executive) {
-    const etcs_equipment *const equipment = executive->equipment;
     uint32_t status = (uint32_t)ETCS_UNIT_OK;
-    etcs_channel_fill_(executive);
-    if ((equipment->exchange != NULL)
-        && ((equipment->exchange(equipment->of, executive->own, executive->other) == 0)
-            || (etcs_channel_difference(executive->own, executive->other) != (uint32_t)ETCS_CHANNEL_SAME))) {
-        status = (uint32_t)ETCS_EXECUTIVE_OTHER_CHANNEL;
+    for (size_t i = 0; (guard != NULL) && (i < equipment->guard_bytes); i++) {
+        status = (guard[i] == (uint8_t)ETCS_STACK_PAINT) ? status : (uint32_t)ETCS_EXECUTIVE_STACK;
     }
     return status;
 }
 
-/* ---- the self-test: two lives on a medium in memory */
-
-static inline int etcs_self_test_read_(void *medium, uint64_t sector, uint8_t *bytes) {
-    const uint8_t *const from = ((etcs_executive *)medium)->test_medium[0] + (sector * ETCS_UNIT_SECTOR);
-    for (uint32_t i = 0; i < (uint32_t)ETCS_UNIT_SECTOR; i++) {
-        bytes[i] = from[i];
+static inline uint32_t etcs_executive_check_channel_(etcs_executive *executive) {
+    const etcs_equipment *const equipment = executive->equipment;
+    const uint64_t parts[] = {executive->cycles, executive->fault, etcs_channel_number_(&executive->command),
+                              executive->command.event, executive->outputs_digest, executive->requests_digest,
+                              etcs_digest_state_(&executive->unit)};
+    for (uint32_t part = 0; part < (uint32_t)ETCS_CHANNEL_SAME; part++) {
+        etcs_channel_put_(&executive->own[8u * part], parts[part]);
     }
-    return 1;
+    return ((equipment->exchange == NULL)
+            || ((equipment->exchange(equipment->of, executive->own, executive->other) != 0)
+                && (etcs_channel_difference(executive->own, executive->other) == (uint32_t)ETCS_CHANNEL_SAME)))
+               ? (uint32_t)ETCS_UNIT_OK
+               : (uint32_t)ETCS_EXECUTIVE_OTHER_CHANNEL;
 }
 
-static inline int etcs_self_test_carry_out_(void *medium, const etcs_unit_request_info *request, const uint8_t *bytes) {
-    uint8_t *const to = ((etcs_executive *)medium)->test_medium[0] + (request->sector * ETCS_UNIT_SECTOR);
-    for (uint64_t i = 0; i < (request->sectors * ETCS_UNIT_SECTOR); i++) {
-        to[i] = bytes[i];
-    }
-    return 1;
+static inline uint32_t etcs_executive_check_time_(etcs_executive *executive) {
+    const etcs_equipment *const equipment = executive->equipment;
+    const uint64_t now = equipment->now_us(equipment->of);
+    const uint64_t took = (now > executive->due_us) ? (now - executive->due_us) : 0u;
+    executive->longest_us = (took > executive->longest_us) ? took : executive->longest_us;
+    return (took < equipment->late_us) ? (uint32_t)ETCS_UNIT_OK : (uint32_t)ETCS_EXECUTIVE_LATE;
 }
 
-/* An authority of 1,000 m, a train that runs far too fast in it, and a life after a loss of power. */
-static inline uint32_t etcs_self_test_inputs_(void *of, etcs_unit *unit) {
-    static const uint8_t authority[] = {0x90, 0x00, 0x7F, 0x80, 0x20, 0x01, 0x43, 0x20, 0x24, 0xA8, 0x00, 0x7F, 0xE0, 0x07, 0xD0, 0x02,
-                                        0xB0, 0x0D, 0x90, 0x00, 0x10, 0x00, 0x0D, 0xC0, 0x3A, 0x40, 0x00, 0x20, 0x80, 0x1F, 0xE0};
-    static const uint8_t identity[] = {0x41};
-    static const etcs_train_data data = {20000, 160000, 70, 1000, 15};
-    static const int64_t movements_cm[] = {0, 1000, 9000, 100, -100};
-    static const uint32_t speeds_m_per_h[] = {0, 36000, 131000, 160000, 5000};
-    const uint32_t step = ((const etcs_executive *)of)->test_step;
-    uint32_t status = etcs_unit_odometer(unit, movements_cm[step], speeds_m_per_h[step]);
-    if (status == (uint32_t)ETCS_UNIT_OK) {
-        status = etcs_unit_clock(unit, UINT64_C(1000) * step);
-    }
-    if ((status == (uint32_t)ETCS_UNIT_OK) && (step == 0u)) {
-        status = etcs_unit_telegram(unit, authority, sizeof authority);
-        status = (status == (uint32_t)ETCS_UNIT_OK) ? etcs_unit_identity(unit, identity, sizeof identity) : status;
-        status = (status == (uint32_t)ETCS_UNIT_OK) ? etcs_unit_action(unit, (uint32_t)ETCS_CHOOSE_LEVEL_1) : status;
-        status = (status == (uint32_t)ETCS_UNIT_OK) ? etcs_unit_train_data(unit, &data) : status;
-        status = (status == (uint32_t)ETCS_UNIT_OK) ? etcs_unit_action(unit, (uint32_t)ETCS_START) : status;
-    }
-    return status;
-}
+/* ---- the self-test */
 
-static inline uint32_t etcs_self_test_format_(etcs_executive *executive) {
-    etcs_unit_request_info request;
-    uint32_t index = 0, status;
-    while ((status = etcs_unit_format_request(2, index, &request, executive->bytes, sizeof executive->bytes)) == (uint32_t)ETCS_UNIT_OK) {
-        (void)etcs_self_test_carry_out_(executive, &request, executive->bytes);
-        index++;
-    }
-    return (status == (uint32_t)ETCS_UNIT_NO_SUCH_REQUEST) ? (uint32_t)ETCS_UNIT_OK : status;
-}
-
-/* A life of the steps from one to another; the digest of the outputs of each goes to `digest`. */
-static inline uint32_t etcs_self_test_live_(etcs_executive *executive, uint32_t cold, uint32_t from, uint32_t to, uint64_t *digest) {
+/* A life up to a step; the digest of the outputs of each cycle goes to `digest`. */
+static inline uint32_t etcs_executive_test_(etcs_executive *executive, uint32_t cold, uint32_t to, uint64_t *digest) {
     uint32_t status = etcs_unit_begin(&executive->unit, executive->equipment->sectors, cold);
-    if (status == (uint32_t)ETCS_UNIT_OK) {
-        status = etcs_executive_release_(executive);
-    }
-    for (executive->test_step = from; (status == (uint32_t)ETCS_UNIT_OK) && (executive->test_step < to); executive->test_step++) {
+    status = (status == (uint32_t)ETCS_UNIT_OK) ? etcs_executive_release_(executive) : status;
+    for (; (status == (uint32_t)ETCS_UNIT_OK) && (executive->test.step < to); executive->test.step++) {
         status = etcs_executive_flush_(executive);
         *digest = etcs_digest_number_(*digest, executive->outputs_digest);
     }
@@ -384,31 +239,28 @@ static inline uint32_t etcs_self_test_live_(etcs_executive *executive, uint32_t 
     return status;
 }
 
-/** Runs the self-test: two short lives on a ring in memory, by the library and by the executive's own code. Writes the digest of
- * their outputs, of their requests and of the ring; it has to be ETCS_SELF_TEST_DIGEST. etcs_executive_begin calls it. The executive must not be
- * running. Returns OK, or the first answer of the unit that isn't. */
+/** Runs the self-test: two short lives on a ring in memory, by the library and by the executive's own code. Writes the digest
+ * of their outputs, of their requests and of the ring; it has to be ETCS_SELF_TEST_DIGEST. etcs_executive_begin calls it. The
+ * executive must not be running. Returns OK, or the first answer of the unit that isn't. */
 ETCS_MUST_USE
 static inline uint32_t etcs_executive_self_test(etcs_executive *executive, uint64_t *digest) {
     const etcs_equipment *const equipment = executive->equipment;
-    etcs_equipment test;
-    test.of = executive;
-    test.medium = executive;
-    test.sectors = ETCS_SELF_TEST_SECTORS;
-    test.read_sector = etcs_self_test_read_;
-    test.carry_out = etcs_self_test_carry_out_;
-    test.take_inputs = etcs_self_test_inputs_;
-    executive->equipment = &test;
-    *digest = etcs_digest_begin_();
+    etcs_self_test *const test = &executive->test;
+    const etcs_equipment of_test = {test, test, ETCS_SELF_TEST_SECTORS, 0, 0, NULL, 0, etcs_self_test_read_,
+                                    etcs_self_test_carry_out_, NULL, NULL, etcs_self_test_inputs_, NULL, NULL, NULL};
+    uint32_t status = etcs_self_test_format_(test, executive->bytes);
+    executive->equipment = &of_test;
     executive->requests_digest = etcs_digest_begin_();
-    uint32_t status = etcs_self_test_format_(executive);
+    test->step = 0;
+    *digest = etcs_digest_begin_();
     if (status == (uint32_t)ETCS_UNIT_OK) {
-        status = etcs_self_test_live_(executive, (uint32_t)ETCS_COLD_UNKNOWN, 0, 4, digest);
+        status = etcs_executive_test_(executive, (uint32_t)ETCS_COLD_UNKNOWN, ETCS_SELF_TEST_FIRST, digest);
     }
     if (status == (uint32_t)ETCS_UNIT_OK) {
-        status = etcs_self_test_live_(executive, (uint32_t)ETCS_COLD_MOVED, 4, 5, digest);
+        status = etcs_executive_test_(executive, (uint32_t)ETCS_COLD_MOVED, ETCS_SELF_TEST_STEPS, digest);
     }
     *digest = etcs_digest_number_(*digest, executive->requests_digest);
-    *digest = etcs_digest_bytes_(*digest, executive->test_medium[0], sizeof executive->test_medium);
+    *digest = etcs_digest_bytes_(*digest, test->sectors, sizeof test->sectors);
     executive->equipment = equipment;
     return status;
 }
@@ -417,45 +269,39 @@ static inline uint32_t etcs_executive_self_test(etcs_executive *executive, uint6
 
 /* The emergency brake, in Stand By, before the first output. */
 static inline void etcs_executive_clear_(etcs_executive *executive, const etcs_equipment *equipment) {
+    static const etcs_unit_output first = {0, 0, (uint8_t)ETCS_STAND_BY, (uint8_t)ETCS_LEVEL_INVALID,
+                                           (uint8_t)ETCS_BRAKE_EMERGENCY, (uint8_t)ETCS_SHOWS_NOT_REVALIDATED};
     executive->equipment = equipment;
+    executive->command = first;
     executive->cycles = 0;
     executive->longest_us = 0;
     executive->requests_digest = etcs_digest_begin_();
     executive->outputs_digest = etcs_digest_begin_();
     executive->released = 0;
     executive->fault = (uint32_t)ETCS_UNIT_OK;
-    executive->command.event = 0;
-    executive->command.limit_m_per_h = 0;
-    executive->command.mode = (uint8_t)ETCS_STAND_BY;
-    executive->command.level = (uint8_t)ETCS_LEVEL_INVALID;
-    executive->command.brake = (uint8_t)ETCS_BRAKE_EMERGENCY;
-    executive->command.indications = (uint8_t)ETCS_SHOWS_NOT_REVALIDATED;
 }
 
-/** Powers up: obeys the emergency brake, paints the guard below the stack, runs the self-test, opens the unit on the medium and
- * carries out its power-up. The first cycle is due one cycle later. Call it after each power-up, and after a fault and
- * etcs_executive_end, then with ETCS_COLD_UNKNOWN. The executive is all zeros before its first begin. Returns OK, or the fault;
- * where the unit is still open, IS_OPEN, and nothing has changed. Before the first cycle the watchdog is fed once. */
+/** Powers up: obeys the emergency brake, paints the guard below the stack, runs the self-test, opens the unit on the medium
+ * and carries out its power-up. The first cycle is due one cycle later. Call it after each power-up, and after a fault and
+ * etcs_executive_end, then with ETCS_COLD_UNKNOWN. The executive is all zeros before its first begin. Returns OK, or the
+ * fault; where the unit is still open, IS_OPEN, and nothing has changed. Before the first cycle the watchdog is fed once. */
 ETCS_MUST_USE
 static inline uint32_t etcs_executive_begin(etcs_executive *executive, const etcs_equipment *equipment, uint32_t cold) {
     uint64_t digest = 0;
-    uint32_t status = (uint32_t)ETCS_UNIT_OK;
+    uint32_t status;
     if (executive->unit.is_open != 0u) {
         return (uint32_t)ETCS_UNIT_IS_OPEN;
     }
     etcs_executive_clear_(executive, equipment);
     equipment->obey(equipment->of, &executive->command);
     etcs_executive_paint_(equipment);
-    if ((etcs_executive_self_test(executive, &digest) != (uint32_t)ETCS_UNIT_OK) || (digest != ETCS_SELF_TEST_DIGEST)) {
+    status = etcs_executive_self_test(executive, &digest);
+    etcs_executive_clear_(executive, equipment);
+    if ((status != (uint32_t)ETCS_UNIT_OK) || (digest != ETCS_SELF_TEST_DIGEST)) {
         status = (uint32_t)ETCS_EXECUTIVE_SELF_TEST;
     }
-    etcs_executive_clear_(executive, equipment);
-    if (status == (uint32_t)ETCS_UNIT_OK) {
-        status = etcs_unit_begin(&executive->unit, equipment->sectors, cold);
-    }
-    if (status == (uint32_t)ETCS_UNIT_OK) {
-        status = etcs_executive_release_(executive);
-    }
+    status = (status == (uint32_t)ETCS_UNIT_OK) ? etcs_unit_begin(&executive->unit, equipment->sectors, cold) : status;
+    status = (status == (uint32_t)ETCS_UNIT_OK) ? etcs_executive_release_(executive) : status;
     etcs_executive_fail_(executive, status);
     executive->due_us = equipment->now_us(equipment->of) + equipment->cycle_us;
     if (status == (uint32_t)ETCS_UNIT_OK) {
@@ -464,29 +310,20 @@ static inline uint32_t etcs_executive_begin(etcs_executive *executive, const etc
     return status;
 }
 
-/* What a cycle does up to its command. */
-static inline void etcs_executive_live_(etcs_executive *executive) {
-    const etcs_equipment *const equipment = executive->equipment;
-    executive->cycles++;
-    etcs_executive_fail_(executive, etcs_executive_flush_(executive));
-    etcs_executive_fail_(executive, (etcs_executive_guard_is_whole_(equipment) != 0) ? (uint32_t)ETCS_UNIT_OK : (uint32_t)ETCS_EXECUTIVE_STACK);
-    etcs_executive_fail_(executive, etcs_channel_compare_(executive));
-    executive->requests_digest = etcs_digest_begin_();
-    const uint64_t now = equipment->now_us(equipment->of);
-    const uint64_t took = (now > executive->due_us) ? (now - executive->due_us) : 0u;
-    executive->longest_us = (took > executive->longest_us) ? took : executive->longest_us;
-    etcs_executive_fail_(executive, (took < equipment->late_us) ? (uint32_t)ETCS_UNIT_OK : (uint32_t)ETCS_EXECUTIVE_LATE);
-}
-
 /** Runs a cycle: waits until it is due, takes the inputs, flushes them, compares with the other channel, obeys, and feeds the
- * watchdog where an output was obeyed. Call it again and again after etcs_executive_begin, whatever it returns: after a fault it
- * only commands the emergency brake. Returns OK, or the fault that holds. */
+ * watchdog where an output was obeyed. Call it again and again after etcs_executive_begin, whatever it returns: after a fault
+ * it only commands the emergency brake. Returns OK, or the fault that holds. */
 ETCS_MUST_USE
 static inline uint32_t etcs_executive_cycle(etcs_executive *executive) {
     const etcs_equipment *const equipment = executive->equipment;
     equipment->wait_until_us(equipment->of, executive->due_us);
     if (executive->fault == (uint32_t)ETCS_UNIT_OK) {
-        etcs_executive_live_(executive);
+        executive->cycles++;
+        etcs_executive_fail_(executive, etcs_executive_flush_(executive));
+        etcs_executive_fail_(executive, etcs_executive_check_stack_(equipment));
+        etcs_executive_fail_(executive, etcs_executive_check_channel_(executive));
+        executive->requests_digest = etcs_digest_begin_();
+        etcs_executive_fail_(executive, etcs_executive_check_time_(executive));
     }
     equipment->obey(equipment->of, &executive->command);
     if ((executive->fault == (uint32_t)ETCS_UNIT_OK) && (executive->released > 0u)) {

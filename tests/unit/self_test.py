@@ -1,5 +1,5 @@
 #!/usr/bin/env python3
-"""Works out the digest of the self-test of include/etcs_executive.h by the reference model, and compares it with the header's.
+"""Works out the digest of the self-test (include/etcs_self_test.h) by the reference model, and compares it with the header's.
 
     tests/unit/self_test.py [DIGEST]    DIGEST is what a program with the library worked out
 """
@@ -70,7 +70,7 @@ def wanted():
 
 def main(words):
     digest, brakes = wanted()
-    header = (TOP / "include/etcs_executive.h").read_text()
+    header = (TOP / "include/etcs_self_test.h").read_text()
     found = [int(re.search(r"#define ETCS_SELF_TEST_DIGEST UINT64_C\((\w+)\)", header)[1], 0), *(int(word, 16) for word in words)]
     print(f"the self-test: digest {digest:#x}, {brakes}")
     if any(one != digest for one in found) or not all(brakes.values()):

@@ -89,6 +89,9 @@ clock=(-icount "shift=4,sleep=off")
 "$cross" -std=c11 -O2 "${strict[@]}" "${bare_words[@]}" "$top/examples/bare_metal/main.c" "$bare/lib/libetcs_unit_static.a" -o "$made/example.elf" || fails "the example for a bare board doesn't compile"
 board "$made/example.elf" >"$made/said"
 "$python" "$here/examples.py" board "$made/said" || { cat "$made/said"; fails "the example on the board"; }
+# (an hour of cycles, in which power is lost more than 100 times)
+"$cross" -std=c11 -O2 "${strict[@]}" "${bare_words[@]}" -DCYCLES=36000 -DLIFE_CYCLES=675 "$top/examples/bare_metal/main.c" "$bare/lib/libetcs_unit_static.a" -o "$made/hour.elf" &&
+    board "$made/hour.elf" >"$made/said" && tail -n 2 "$made/said" && "$python" "$here/examples.py" hour "$made/said" || { tail -n 3 "$made/said"; fails "an hour on the board"; }
 for fault in hangs crashes overflows; do
     "$cross" -std=c11 -O2 "${strict[@]}" "${bare_words[@]}" "-D${fault^^}" -include "$here/board_faults.h" "$top/examples/bare_metal/main.c" "$bare/lib/libetcs_unit_static.a" \
         -o "$made/example.elf" || fails "the example for a bare board doesn't compile with a fault"

@@ -1,7 +1,7 @@
 #!/usr/bin/env python3
 """Tests the buffer of a unit as a cap on what the track may announce (capped.c). Up to the numbers that the buffer is for nothing is refused. A telegram
 beyond what it holds is refused, the executive brakes until it ends and begins again, the journal stays as it was, and afterwards the unit has the
-memory that it had. And the table of docs/explain/integration.md has the bytes that lists take.
+memory that it had. Of links there is no more than a list has room for. And the table of docs/explain/integration.md has the bytes that lists take.
 
     tests/unit/capped.py CAPPED    CAPPED is capped.c with the library without malloc
 """
@@ -14,6 +14,7 @@ sys.path[:0] = [str(TOP / "tests" / "unit"), str(TOP / "tests"), str(TOP / "test
 
 from bounded_lives import KINDS, Track, written  # noqa: E402
 from compared import Compared  # noqa: E402
+from named import WIDTH  # noqa: E402
 
 CAPS = {"packets": 10, "restrictions": 30, "gradients": 62, "speeds": 52}
 EACH = {"restrictions": 10, "gradients": 30, "speeds": 25}  # so many a telegram
@@ -22,7 +23,7 @@ BOUND = {"restrictions": 136, "gradients": 68, "speeds": 136}  # of ETCS_MEMORY_
 STANDING = 27_000  # bytes that a unit in Stand By has at least
 MANY = {of: 2_000_000 for of in KINDS}
 ROOMS = 49_152, 65_536, 131_072, 262_144  # bytes of a buffer
-ROWS, LINKS = (30, 100, 300), 18  # (so many links a telegram has room for)
+ROWS, LINKS, MOST_LINKS = (30, 100, 300), 18, 32  # (so many links a telegram has room for, and a unit)
 PAGE = TOP / "docs" / "explain" / "integration.md"
 STAND, CYCLE, AGAIN = "odometer 0 0", "cycle", "again"
 EMPTY = "telegram " + written("NID_BG 9000", [None])
@@ -112,11 +113,11 @@ def row(program, compared, kind):
     return ", ".join(f"{many} take {of:,}" if kind == "restrictions" else f"{of:,}" for many, of in zip(ROWS, taken)) + " |"
 
 
-def links(program):
-    """The same of a group that announces as many links as a telegram holds."""
+def links(program, lists):
+    """The same of groups of which each announces as many links as a telegram holds: a list replaces the one before."""
     link = "D_LINK 100, Q_NEWCOUNTRY 0, NID_BG {}, Q_LINKORIENTATION 1, Q_LINKREACTION 1, Q_LOCACC 5"
     rest = ", ".join(link.format(number) for number in range(101, 100 + LINKS))
-    return grown(program, [f"5: {link.format(100)}, N_ITER {LINKS - 1}, {rest}"])
+    return grown(program, [f"5: {link.format(100)}, N_ITER {LINKS - 1}, {rest}"] * lists)
 
 
 def held(program, size, kind):
@@ -136,7 +137,9 @@ def main(program):
     for kind in ENTRY:
         wanted = row(program, compared, kind)
         compared.unless(f": {wanted}\n" in page, f"{PAGE.name} doesn't have: {wanted}")
-    compared.same("bytes of links", links(program), 0)
+    for lists in (1, 4):
+        compared.same(f"bytes of links, {lists} lists", links(program, lists), 0)
+    compared.same("links that a list has, at most", 1 + (1 << WIDTH["N_ITER"]) - 1, MOST_LINKS)
     for size in ROOMS:
         wanted = " | ".join(f"{number:,}" for number in (size, *(held(program, size, kind) for kind in ENTRY)))
         compared.unless(f"\n| {wanted} |\n" in page, f"{PAGE.name} doesn't have: {wanted}")

@@ -6,9 +6,9 @@ from typing import Any
 
 from gaknifur.cli import hazard_commands
 from gaknifur.program import REFUSED, Failed
-from gaknifur.testing import hazard_search, hazard_tracks, hazards
+from gaknifur.testing import hazard_core, hazard_search, hazard_tracks, hazards
 from gaknifur.testing.branching import Answer, Step
-from gaknifur.testing.hazards import EMERGENCY, FS, NONE, PT, SH, SR, TR, UN, HAZARDS, Moment
+from gaknifur.testing.hazards import EMERGENCY, FS, NONE, PT, SB, SH, SR, TR, UN, HAZARDS, Moment
 from gaknifur.testing.sent_track import Restriction, Track
 from gaknifur.unit import Brake, Mode
 
@@ -147,8 +147,33 @@ class Explanations(unittest.TestCase):
             now = moment(SR, place=11_000, names=names)
             self.assertEqual(hazards.found_at(now, ["H6"]), [("H6", Mode.STAFF_RESPONSIBLE, point)])
 
+    def test_a_restriction_under_a_long_train_that_moved_without_a_length(self) -> None:
+        for idle, point in ((121_000, "safety 6"), (120_999, "")):
+            now = moment(SR, place=130_000, length=150_000, names=("restriction_of_rear",), idle=idle)
+            self.assertEqual(hazards.found_at(now, ["H6"]), [("H6", Mode.STAFF_RESPONSIBLE, point)])
+
     def test_each_weak_point_is_of_hazards(self) -> None:
         self.assertLessEqual({name for names, _ in hazards.WEAK_POINTS.values() for name in names}, set(HAZARDS))
+
+
+class Alphabets(unittest.TestCase):
+    """The core alphabet has some of the standard symbols, each with a reason."""
+
+    def test_each_core_symbol_is_standard_and_has_a_reason(self) -> None:
+        standard, core = hazard_core.ALPHABETS.values()
+        symbols = {symbol for one in core for symbol in one.symbols}
+        self.assertLessEqual(symbols, {symbol for one in standard for symbol in one.symbols})
+        self.assertEqual(symbols, set(hazard_core.REASONS))
+        for symbol, why in hazard_core.REASONS.items():
+            self.assertRegex(why, r"[(][345][.][0-9.]+(, [345][.][0-9.]+)*[)]", symbol)
+
+    def test_the_tracks_are_the_same(self) -> None:
+        standard, core = hazard_core.ALPHABETS.values()
+        self.assertEqual([(one.name, one.begins) for one in core], [(one.name, one.begins) for one in standard])
+        for one in core:
+            self.assertEqual(len(set(one.symbols)), len(one.symbols))
+            self.assertIn(len(one.symbols), range(10, 16))
+            self.assertIn(("cold", 0), one.symbols)
 
 
 class Steps(unittest.TestCase):
@@ -162,6 +187,11 @@ class Steps(unittest.TestCase):
         self.assertEqual((again.place, again.path, again.farthest, again.has_stood, again.time_ms, again.life, again.cold),
                          (700, 0, 700, False, 0, 2, 2))
         self.assertEqual([len(one["steps"]) for one in hazard_search.lives_of(steps)], [4, 0])
+
+    def test_the_foremost_place_without_a_length(self) -> None:
+        steps: list[Step] = [{"cold": 0}, {"drive": [1_000, 5_000]}, {"drive": [-300, 0]}, {"drive": [900, 0]}, {"cold": 0}]
+        modes = [SB, SB, SB, SR, SB]
+        self.assertEqual([one.idle for one in hazards.moments(steps, [Answer(mode, NONE, 0, b"") for mode in modes])], [0, 1_000, 1_000, 1_000, 1_600])
 
     def test_a_place_that_matters(self) -> None:
         now = moment(place=1_000)

@@ -5,8 +5,9 @@
 
 - The search of the unit finds the drive with a V_LOA that never ends. It goes on from a file, and finds the same. Each drive that it keeps
   passes as a test case.
-- All small tracks to depth 2: no hazard that nothing explains, each one found has its cell in docs/hazards.yaml, and without merging the
-  same are found.
+- All small tracks to depth 2, and to depth 3 of the core alphabet: no hazard that nothing explains, each one found has its cell in
+  docs/hazards.yaml, and without merging the same are found.
+- Where the unit has a fault that needs five symbols, the core alphabet finds it, and depth 3 of the standard one doesn't.
 - Where C lets a step pass, no definition has a hazard: after drawn moments, steps and answers, also such as no unit gives. And to depth 2 the
   same drives are found with C's judgement as without it.
 - Each planted change of the plain kernel (tests/plain) breaks a hazard: a search of it finds a drive that nothing explains; without a change
@@ -26,8 +27,9 @@ import yaml
 
 TOP = Path(__file__).resolve().parents[2]
 sys.path.insert(0, str(TOP / "python"))
-from gaknifur.testing import hazard_search, hazard_tracks, hazards  # noqa: E402
+from gaknifur.testing import branching, hazard_search, hazard_tracks, hazards  # noqa: E402
 from gaknifur.testing.branching import Answer, Branches, compiled  # noqa: E402
+from gaknifur.testing.hazard_core import ALPHABETS  # noqa: E402
 from gaknifur.testing.sent_track import Track  # noqa: E402
 from plain_branches import PlainBranches  # noqa: E402
 
@@ -35,7 +37,8 @@ FEW, DEPTH, LEAST_PLANTED = 4, 3, 21
 SEARCH = ("--depth", "2", "--minutes", "10", "--jobs", "2")
 KNOWN = (*SEARCH, "--hazard", "H1", "--track", "end of authority")
 LIFE = "found: H1 in FS: safety 44: 8 steps"
-LEAST = 11  # kinds of hazards at depth 2
+CORE = ("--alphabet", "core", "--depth", "3", "--minutes", "10", "--jobs", "2")
+LEAST, LEAST_OF_CORE = 11, 13  # kinds of hazards at depth 2, and of the core alphabet at depth 3
 DRAWN, SEED, LEAST_DRAWN = 20_000, 1, 100  # moments, and of each hazard
 
 # What is wrong, the file, the text before and after, the hazard, the small track and how a drive begins.
@@ -73,6 +76,15 @@ PLANTED = [
      "end of authority", "FS"),
 ]
 
+# From the third power-up on a trip commands nothing: the texts of branching.c before and after. Two losses of power, a start of mission, an authority
+# and a long movement come there.
+DEEP_DEPTH, DEEP = 5, [
+    ("    uint8_t memory[MEMORY];\n} branch_state;", "    uint8_t memory[MEMORY];\n    uint32_t lives;\n} branch_state;"),
+    ("    (void)etcs_unit_close(&now.unit);", "    now.lives++;\n    (void)etcs_unit_close(&now.unit);"),
+    *((text, f"{text}\n{output}brake = now.lives > 2 && {output}mode == ETCS_TRIP ? ETCS_BRAKE_NONE : {output}brake;") for text, output in (
+        ("*newest = outputs[count - 1];", "newest->"), ("answer->front_cm = state.front_cm;", "answer->why.output."))),
+]
+
 
 class Rows:
     """Counts what is wrong."""
@@ -88,7 +100,7 @@ class Rows:
     def lab(self, *words):
         """What a search finds. It has to be whole, and everything explained."""
         done = subprocess.run([TOP / "lab", "hazards", *words], capture_output=True, text=True, check=False)
-        whole = [line for line in done.stdout.splitlines() if "all sequences up to 2;" in line]
+        whole = [line for line in done.stdout.splitlines() if f"all sequences up to {words[words.index('--depth') + 1]};" in line]
         self.is_so("lab hazards", done.returncode == 0 and len(whole) == done.stdout.count("beginnings"), done.stdout + done.stderr)
         return [line for line in done.stdout.splitlines() if line.startswith("found: ")]
 
@@ -106,17 +118,17 @@ class Rows:
                 kept = subprocess.run([TOP / "lab", "test", f"{room}/kept"], capture_output=True, text=True, check=False)
                 self.is_so("kept cases", kept.returncode == 0, kept.stdout)
 
-    def all_tracks(self):
-        """The search of all small tracks."""
-        found, cells = self.lab(*SEARCH), yaml.safe_load((TOP / "docs/hazards.yaml").read_text())
-        self.is_so("kinds", len(found) >= LEAST, found)
+    def all_tracks(self, search, least):
+        """A search of all small tracks."""
+        found, cells = self.lab(*search), yaml.safe_load((TOP / "docs/hazards.yaml").read_text())
+        self.is_so("kinds", len(found) >= least, found)
         for line in found:
             _, hazard, _, mode, kind, point, *_ = line.replace(":", " ").split()
             cell = next(cell for modes, cell in cells[hazard].items() if mode in modes.split())
             self.is_so("table", point in map(str, cell.get({"law": "laws"}.get(kind, kind), [])), line)
         kinds = {line.rpartition(":")[0] for line in found}
-        self.is_so("unmerged", {line.rpartition(":")[0] for line in self.lab(*SEARCH, "--unmerged")} == kinds)
-        print(f"tests/oracle/hazard_rows.py: {len(found)} kinds of hazards, all explained")
+        self.is_so("unmerged", {line.rpartition(":")[0] for line in self.lab(*search, "--unmerged")} == kinds)
+        print(f"tests/oracle/hazard_rows.py: {len(found)} kinds of hazards, all explained: {' '.join(search)}")
 
     def judged(self):
         """What C lets pass is no hazard."""
@@ -137,6 +149,21 @@ class Rows:
             differ = [work for work, one in both[0].items() if (one.found, one.inputs) != (both[1][work].found, both[1][work].inputs)]
             self.is_so("the same drives", not differ, differ[:3])
         print(f"tests/oracle/hazard_rows.py: {DRAWN} moments drawn, {met['passed']} of them pass; {len(both[0])} parts with the same drives")
+
+    def deep(self):
+        """A fault that needs a long sequence."""
+        text, kept = branching.SOURCE.read_text(), branching.SOURCE
+        for old, new in DEEP:
+            self.is_so("a text of branching.c", text.count(old) == 1, old)
+            text = text.replace(old, new)
+        with tempfile.TemporaryDirectory() as room:
+            branching.SOURCE = Path(room) / "faulty.c"
+            branching.SOURCE.write_text(text)
+            unit, branching.SOURCE = Branches(compiled(Path(room))), kept
+            for alphabet, depth, wanted in (("standard", 3, 0), ("core", DEEP_DEPTH - 1, 0), ("core", DEEP_DEPTH, DEEP_DEPTH)):
+                found, states = first_unexplained(unit, ALPHABETS[alphabet], depth)
+                self.is_so(f"a deep fault, {alphabet} to {depth}", found == wanted, found)
+                print(f"tests/oracle/hazard_rows.py: a fault of {DEEP_DEPTH} symbols: {found or 'not found'}, {alphabet} to {depth}, {states} states")
 
     def planted(self, few):
         """The searches of the plain kernel."""
@@ -168,6 +195,17 @@ def drawn(r):
 
 def answer_of(r):
     return Answer(r.choice((0, 0, 0, 1, 1, 2, 3, 4, 6, 7, 8, 9)), r.randrange(3), r.choice((0, 1, 15_000, 30_000, 30_001, 40_000, 100_000, 120_000, 200_000)), b"")
+
+
+def first_unexplained(unit, tracks, depth):
+    """The depth at which H8 is first found at an end of authority, and nothing explains it, 0 where it isn't; and how many states were visited."""
+    walker, states = hazard_search.Walker(unit, ("H8",), time.monotonic() + 3600, tracks=tracks), 0
+    for work in hazard_search.works(depth, lambda one: one.name == "end of authority", tracks):
+        result = walker.walk(work)
+        states += result.states
+        if any(not point for *_, point in result.found):
+            return work.depth, states
+    return 0, states
 
 
 def search(folder, hazard, track, begin, depth):
@@ -205,8 +243,10 @@ def in_copy(plant, hazard, track, begin, depth=DEPTH):
 def main(which=""):
     rows = Rows()
     rows.unit()
-    rows.all_tracks()
+    rows.all_tracks(SEARCH, LEAST)
+    rows.all_tracks(CORE, LEAST_OF_CORE)
     rows.judged()
+    rows.deep()
     rows.planted(None if which == "all" else FEW)
     rows.is_so("planted changes", len(PLANTED) >= LEAST_PLANTED, len(PLANTED))
     print(f"tests/oracle/hazard_rows.py: {len(PLANTED)} planted changes, {len(PLANTED) if which else FEW} tried, {rows.wrong} wrong")

@@ -3,7 +3,7 @@ python/gaknifur/testing/hazards.py."""
 from pathlib import Path
 
 from gaknifur.simulation.driving import MODES
-from gaknifur.testing.hazard_tracks import TRACKS
+from gaknifur.testing.hazard_core import ALPHABETS, REASONS
 from gaknifur.testing.hazards import HAZARDS, WEAK_POINTS
 from gaknifur.yaml_files import document
 
@@ -24,7 +24,16 @@ loss of power; a movement leads to a place that matters, or a centimetre before 
 medium, so the search goes back to it without playing anything again. Each drive with a hazard is shrunk, and named by the first item of
 SAFETY, or law, whose weak point it has. Where it has none, it is unexplained, and the exit status is 4.
 
-| Small track | Beginnings | Symbols |
+| Small track | Beginnings | Symbols, standard | core |
+|---|---|---|---|
+"""
+CORE = """
+The **standard** alphabet has each packet with its least, greatest and special values, readings around each place that matters, clock moments
+around each timer, and every action of the driver. All sequences up to 4 of it take some 20 processor minutes, up to 5 a day. The **core**
+alphabet (`--alphabet core`, [hazard_core.py](../../python/gaknifur/testing/hazard_core.py)) has a dozen symbols for each track, so that all
+sequences up to 7 can be tried. Each is chosen from a procedure of the standard, whose section is in brackets:
+
+| Symbol | Tracks | What it is |
 |---|---|---|
 """
 LIMITS = """
@@ -89,6 +98,19 @@ def shown(kind, one, reader):
     return f"SAFETY {one}" if kind == "safety" else one
 
 
+def alphabets():
+    """A row for each small track."""
+    for one, core in zip(*ALPHABETS.values(), strict=True):
+        yield f"| {one.name} | {len(one.begins)} | {len(one.symbols)} | {len(core.symbols)} |"
+
+
+def core_symbols():
+    """A row for each symbol of the core alphabet."""
+    for symbol, why in REASONS.items():
+        tracks = ", ".join(one.name for one in ALPHABETS["core"] if symbol in one.symbols)
+        yield f"| `{' '.join(map(str, symbol))}` | {tracks} | {why} |"
+
+
 def page(hazards):
     """The lines of the page."""
     lines = [HEAD]
@@ -103,4 +125,4 @@ def page(hazards):
             rows.setdefault((cell.get("why", "") + more, *given), []).append(mode)
         lines += [f"| {' '.join(modes)} | {' | '.join(row)} |" for row, modes in rows.items()]
         lines.append("")
-    return [*lines, SEARCH + "\n".join(f"| {one.name} | {len(one.begins)} | {len(one.symbols)} |" for one in TRACKS), LIMITS]
+    return [*lines, SEARCH + "\n".join(alphabets()), CORE + "\n".join(core_symbols()), LIMITS]

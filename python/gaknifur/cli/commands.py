@@ -349,6 +349,7 @@ TESTING: list[Command | Commands] = [
             "item of docs/explain/safety.md explains.", "hazards --hazard H1 --minutes 1",
             option("--hazard", "only this hazard, of H1 to H8 (default: all)", "HAZARD", multiple=True),
             option("--track", "only the small tracks whose names contain this text", "TEXT", default=""),
+            option("--alphabet", "core: a dozen inputs for each track, for longer sequences (default: standard)", "core|standard", default="standard"),
             Setting("--depth", "the most symbols in a sequence", "N", int, "cli.hazard_commands:DEPTH"),
             Setting("--minutes", "end the search after this time", "MINUTES", float, "cli.hazard_commands:MINUTES"),
             JOBS, option("--resume", "go on from this file, and add what is done", "FILE", PATH),

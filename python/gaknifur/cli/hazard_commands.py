@@ -10,6 +10,7 @@ from ..simulation import closed_loop
 from ..simulation.driving import MODES
 from ..testing import hazard_search, hazard_tracks, scenario_text
 from ..testing.branching import Branches, Step, compiled
+from ..testing.hazard_core import ALPHABETS
 from ..testing.hazard_search import Kind, Search
 from ..testing.hazards import HAZARDS
 from ..testing.scenarios import Scenario
@@ -28,6 +29,8 @@ def check(given: SimpleNamespace) -> None:
     unknown = [one for one in given.hazard if one not in HAZARDS]
     if unknown:
         raise Failed(f"--hazard {unknown[0]}: has to be one of {', '.join(HAZARDS)}", WRONG_WORDS)
+    if given.alphabet not in ALPHABETS:
+        raise Failed(f"--alphabet {given.alphabet}: has to be one of {', '.join(ALPHABETS)}", WRONG_WORDS)
     if not any(given.track in one.name for one in hazard_tracks.TRACKS):
         raise Failed(f"--track: no track's name has this text; the tracks: {', '.join(one.name for one in hazard_tracks.TRACKS)}", WRONG_WORDS)
     if given.keep and given.keep.exists() and (not given.keep.is_dir() or any(given.keep.iterdir())):
@@ -42,7 +45,7 @@ def explained(kind: Kind) -> str:
 
 def report_depths(search: Search, parts: list[hazard_search.Work]) -> None:
     """Prints for each track the depth to which all sequences were tried."""
-    for number, track in enumerate(hazard_tracks.TRACKS):
+    for number, track in enumerate(search.tracks):
         mine = [one for one in parts if one.track == number]
         done = [search.results[one] for one in mine if one in search.results]
         if not mine:
@@ -87,7 +90,7 @@ def report(given: SimpleNamespace, search: Search) -> int:
 def run(given: SimpleNamespace, search: Search, progress: Terminal) -> int:
     """Runs a search, and prints its report; returns the exit status."""
     search.resume()
-    parts = list(hazard_search.works(given.depth, lambda track: given.track in track.name))
+    parts = list(hazard_search.works(given.depth, lambda track: given.track in track.name, search.tracks))
     before, since = sum(one.inputs for one in search.results.values()), time.monotonic()
     search.run(parts, progress)
     progress.end()
@@ -103,4 +106,5 @@ def hazards(given: SimpleNamespace, progress: Terminal) -> int:
     closed_loop.check_library()
     wanted = tuple(one for one in HAZARDS if not given.hazard or one in given.hazard)
     with tempfile.TemporaryDirectory() as folder:
-        return run(given, Search(compiled(Path(folder)), wanted, given.jobs, 60 * given.minutes, given.resume, not given.unmerged), progress)
+        return run(given, Search(compiled(Path(folder)), wanted, given.jobs, 60 * given.minutes, given.resume, not given.unmerged,
+                                 ALPHABETS[given.alphabet]), progress)

@@ -97,8 +97,9 @@ class TimeIsOver(Exception):
 class Walker:
     """Walks through the states of a unit."""
 
-    def __init__(self, unit: Unit, wanted: tuple[str, ...], end: float, merges: bool = True, filters: bool = True) -> None:
-        self.unit, self.wanted, self.end, self.merges = unit, wanted, end, merges
+    def __init__(self, unit: Unit, wanted: tuple[str, ...], end: float, merges: bool = True, filters: bool = True,
+                 tracks: tuple[SmallTrack, ...] = TRACKS) -> None:
+        self.unit, self.wanted, self.end, self.merges, self.tracks = unit, wanted, end, merges, tracks
         self.filter = unit if filters and isinstance(unit, Branches) else None
         self.bits = sum(1 << number for number, name in enumerate(HAZARDS) if name in wanted)
         self.seen: dict[int, int] = {}
@@ -159,10 +160,10 @@ class Walker:
         result = Result(work)
         if self.of != work[:2] or len(self.seen) > MOST_STATES:
             self.of, self.seen, self.ends = work[:2], {}, {}
-            self.symbols = TRACKS[work.track].by_moment()
+            self.symbols = self.tracks[work.track].by_moment()
         node, path = self.begun(work.begin)
         self.rooms = [None] * (work.depth + 1)
-        symbols = TRACKS[work.track].symbols
+        symbols = self.tracks[work.track].symbols
         try:
             self.explore(node, [*path], symbols[work.symbol:work.symbol + 1], symbols, work.depth, result)
         except TimeIsOver:
@@ -226,10 +227,10 @@ def shrunk(unit: Unit, steps: list[Step], kind: Kind) -> list[Step]:
 
 # ---- all parts
 
-def works(depth: int, wanted: Callable[[SmallTrack], bool]) -> Iterator[Work]:
+def works(depth: int, wanted: Callable[[SmallTrack], bool], tracks: tuple[SmallTrack, ...] = TRACKS) -> Iterator[Work]:
     """The parts of the search up to a depth, the least depth first."""
     for deep in range(1, depth + 1):
-        for number, track in enumerate(TRACKS):
+        for number, track in enumerate(tracks):
             for begin in track.begins if wanted(track) else ():
                 yield from (Work(number, begin, deep, symbol) for symbol in range(len(track.symbols)))
 
@@ -238,10 +239,10 @@ WALKER: list[Walker] = []
 """The walker of this process."""
 
 
-def start(library: Path, wanted: tuple[str, ...], end: float, merges: bool) -> None:
+def start(library: Path, wanted: tuple[str, ...], end: float, merges: bool, tracks: tuple[SmallTrack, ...]) -> None:
     """Makes the walker of a process. An interruption is for the process that waits for it."""
     signal.signal(signal.SIGINT, signal.SIG_IGN)
-    WALKER[:] = [Walker(Branches(library), wanted, end, merges)]
+    WALKER[:] = [Walker(Branches(library), wanted, end, merges, tracks=tracks)]
 
 
 def walk(work: Work) -> Result:
@@ -259,12 +260,13 @@ class Search:
     seconds: float
     file: Path | None = None
     merges: bool = True
+    tracks: tuple[SmallTrack, ...] = TRACKS
     results: dict[Work, Result] = field(default_factory=dict)
     found: dict[Kind, list[Step]] = field(default_factory=dict)
 
     def head(self) -> str:
         """The first line of the file: what the search is of."""
-        alphabet = [[one.name, list(one.begins), [list(symbol) for symbol in one.symbols]] for one in TRACKS]
+        alphabet = [[one.name, list(one.begins), [list(symbol) for symbol in one.symbols]] for one in self.tracks]
         return json.dumps({"hazards": list(self.wanted), "merges": self.merges, "tracks": alphabet, "begins": BEGINS}) + "\n"
 
     def resume(self) -> None:
@@ -293,7 +295,8 @@ class Search:
         left, inputs, since = [one for one in parts if one not in self.results], 0, time.monotonic()
         if self.file:
             files.write(files.Out(self.file, FILE, is_forced=True), [self.head(), *(one.line() for one in self.results.values())])
-        with multiprocessing.get_context("fork").Pool(self.jobs, start, (self.library, self.wanted, time.monotonic() + self.seconds, self.merges)) as pool:
+        given = (self.library, self.wanted, time.monotonic() + self.seconds, self.merges, self.tracks)
+        with multiprocessing.get_context("fork").Pool(self.jobs, start, given) as pool:
             for result in pool.imap(walk, left):
                 self.take(result)
                 inputs += result.inputs

@@ -50,17 +50,25 @@ class Moment(NamedTuple):
     """The driver's actions of this life, by their codes in scenarios."""
     length: int = 0
     maximum: int = 0
+    idle: int = 0
+    """The foremost place of this life in Stand By or Shunting, where the unit knows no length of the train."""
 
 
 # ---- the true train
 
 def after(now: Moment | None, step: Step, answer: Answer) -> Moment:
     """The moment after a step."""
+    later = stepped(now, step, answer)
+    return later._replace(idle=max(later.idle, later.place)) if answer.mode in (SB, SH) else later
+
+
+def stepped(now: Moment | None, step: Step, answer: Answer) -> Moment:
+    """The moment after a step, but for `idle`."""
     (word, value), = step.items()
     if now is None or word == "cold":
         now = now or Moment(answer)
         return Moment(answer, now.track.powered_up(), now.place, farthest=now.place, life=now.life + 1, cold=value, length=now.length,
-                      maximum=now.maximum)
+                      maximum=now.maximum, idle=now.place)
     now = now._replace(answer=answer, moved=0)
     if word == "telegram":
         return now._replace(track=now.track.after(value, now.place, now.life, now.time_ms))
@@ -209,7 +217,7 @@ WEAK_POINTS: dict[str, tuple[tuple[str, ...], Callable[[Moment], bool]]] = {
     "safety 13": (("H3",), lambda now: now.cold == Cold.NOT_MOVED),
     "safety 35": (("H6",), lambda now: now.answer.mode == SH),
     "safety 2": (("H6",), lambda now: all(one.is_linked for one in ignored(now))),
-    "safety 6": (("H6",), lambda now: now.length > REMEMBERED_CM and bool(now.done & {(7,), (11,)})),
+    "safety 6": (("H6",), lambda now: now.length > REMEMBERED_CM and all(now.idle - one.end >= REMEMBERED_CM for one in ignored(now))),
     "law track_picture.none_at_power_up": (("H6",), is_forgotten),
 }
 """For each its hazards, and whether it is there."""

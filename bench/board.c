@@ -6,7 +6,11 @@
  *     N M STATUS INSTRUCTIONS STACK
  *
  * N is the number of the scenario, M that of the line. What hands the call over is measured too, and taken off. Of the stack the first 256 bytes
- * count as written. */
+ * count as written. After each counted line the other calls of a cycle are counted too, and those of a power-up sector by sector; at the end a line
+ * is printed for each with the most that one of them took:
+ *
+ *     call NAME INSTRUCTIONS STACK
+ */
 #include "board.h"
 #include "etcs_memory.h"
 #include "lines.h"
@@ -44,17 +48,37 @@ static inline uint32_t instructions(void) {
     return (uint32_t)now;
 }
 
-/* A call to be counted: an input, a power-up or a preparation. */
+/* A call to be counted. */
+enum kind { AN_INPUT, POWER_UP, PREPARATION, REQUEST, PROVIDE, DONE, RELEASE, COMMAND, STATE, WHY, DRIVER, BEGIN, KINDS };
+
 typedef struct {
-    enum { AN_INPUT, POWER_UP, PREPARATION } kind;
+    enum kind kind;
     uint32_t cold;
     input in;
 } call;
+
+/* What the calls write. */
+static uint8_t bytes[ETCS_UNIT_REQUEST_BYTES];
+static etcs_unit_request_info request;
+static etcs_unit_output outputs[ETCS_UNIT_OUTPUTS], command;
+static uint32_t released;
+static etcs_unit_state_info state;
+static etcs_unit_why_info why;
+static etcs_unit_driver_info driver;
 
 __attribute__((noinline)) static uint32_t carried_out(const call *one) {
     switch (one->kind) {
     case POWER_UP: return etcs_unit_open(&unit, medium, length, one->cold);
     case PREPARATION: return etcs_unit_prepare(&unit);
+    case REQUEST: return etcs_unit_request(&unit, &request, bytes, sizeof bytes);
+    case PROVIDE: return etcs_unit_provide(&unit, request.sector, medium + request.sector * ETCS_UNIT_SECTOR, ETCS_UNIT_SECTOR);
+    case DONE: return etcs_unit_done(&unit);
+    case RELEASE: return etcs_unit_release(&unit, outputs, ETCS_UNIT_OUTPUTS, &released);
+    case COMMAND: return etcs_unit_command(outputs, released, &command);
+    case STATE: return etcs_unit_state(&unit, &state);
+    case WHY: return etcs_unit_why(&unit, &why);
+    case DRIVER: return etcs_unit_driver(&unit, &driver);
+    case BEGIN: return etcs_unit_begin(&unit, length / ETCS_UNIT_SECTOR, one->cold);
     default: return hand_in(&unit, &one->in);
     }
 }
@@ -73,25 +97,47 @@ __attribute__((noinline)) static uint32_t measured(const call *one, uint32_t *to
 
 /* ---- scenarios */
 
-static void carries_out(const etcs_unit_request_info *request, const uint8_t *bytes) {
-    const size_t from = (size_t)request->sector * ETCS_UNIT_SECTOR, count = (size_t)request->sectors * ETCS_UNIT_SECTOR;
-    if (request->kind == ETCS_REQUEST_WRITE)
+static void carries_out(void) {
+    const size_t from = (size_t)request.sector * ETCS_UNIT_SECTOR, count = (size_t)request.sectors * ETCS_UNIT_SECTOR;
+    if (request.kind == ETCS_REQUEST_WRITE)
         for (size_t i = 0; i < count && from + i < sizeof medium; i++)
             medium[from + i] = bytes[i];
 }
 
+/* The most that a call of each kind took. */
+static struct {
+    uint32_t instructions;
+    uint64_t stack;
+} most[KINDS];
+static uint32_t handing_over;
+static int counts;
+
+/* Makes a call, and counts it where calls are counted. */
+static uint32_t made(enum kind kind) {
+    const call one = {kind, ETCS_COLD_UNKNOWN, {.kind = NO_INPUT}};
+    uint32_t took;
+    uint64_t stack;
+    if (counts == 0)
+        return carried_out(&one);
+    const uint32_t status = measured(&one, &took, &stack);
+    if (status == ETCS_UNIT_OK && took > handing_over + most[kind].instructions)
+        most[kind].instructions = took - handing_over;
+    if (status == ETCS_UNIT_OK && stack > most[kind].stack)
+        most[kind].stack = stack;
+    return status;
+}
+
 static void release(void) {
-    static uint8_t bytes[ETCS_UNIT_REQUEST_BYTES];
-    etcs_unit_output outputs[ETCS_UNIT_OUTPUTS];
-    etcs_unit_request_info request;
-    uint32_t count, status;
-    while ((status = etcs_unit_request(&unit, &request, bytes, sizeof bytes)) == ETCS_UNIT_OK) {
-        carries_out(&request, bytes);
-        if (etcs_unit_done(&unit) != ETCS_UNIT_OK)
+    uint32_t status;
+    while ((status = made(REQUEST)) == ETCS_UNIT_OK) {
+        carries_out();
+        if (made(request.kind == ETCS_REQUEST_READ ? PROVIDE : DONE) != ETCS_UNIT_OK)
             return;
     }
-    if (status == ETCS_UNIT_NO_SUCH_REQUEST && etcs_unit_release(&unit, outputs, ETCS_UNIT_OUTPUTS, &count) == ETCS_UNIT_OK)
+    if (status == ETCS_UNIT_NO_SUCH_REQUEST && made(RELEASE) == ETCS_UNIT_OK) {
+        (void)made(COMMAND);
         pending = 0;
+    }
 }
 
 static void settle(void) {
@@ -104,9 +150,18 @@ static void end_life(void) {
     (void)etcs_unit_close(&unit);
 }
 
+/* The rest of a cycle after a counted line, and another life, sector by sector. */
+static void count_others(void) {
+    settle();
+    (void)made(STATE);
+    (void)made(WHY);
+    (void)made(DRIVER);
+    (void)etcs_unit_close(&unit);
+    if (made(BEGIN) == ETCS_UNIT_OK)
+        release();
+}
+
 static void begin(uint32_t slots) {
-    static uint8_t bytes[ETCS_UNIT_SECTOR];
-    etcs_unit_request_info request;
     end_life();
     if (etcs_memory_use(buffer, sizeof buffer) != ETCS_UNIT_OK)
         return;
@@ -114,7 +169,7 @@ static void begin(uint32_t slots) {
     for (size_t i = 0; i < sizeof medium; i++)
         medium[i] = 0;
     for (uint32_t i = 0; etcs_unit_format_request(slots, i, &request, bytes, sizeof bytes) == ETCS_UNIT_OK; i++)
-        carries_out(&request, bytes);
+        carries_out();
 }
 
 /* What a call takes that isn't one of the library's. */
@@ -152,12 +207,26 @@ static void put_row(unsigned scenario, unsigned at_line, uint32_t status, uint32
     }
 }
 
+static void put_others(void) {
+    static const char *const names[KINDS] = {[REQUEST] = "etcs_unit_request", [PROVIDE] = "etcs_unit_provide", [DONE] = "etcs_unit_done",
+                                             [RELEASE] = "etcs_unit_release", [COMMAND] = "etcs_unit_command", [STATE] = "etcs_unit_state",
+                                             [WHY] = "etcs_unit_why", [DRIVER] = "etcs_unit_driver", [BEGIN] = "etcs_unit_begin"};
+    for (unsigned kind = REQUEST; kind < KINDS; kind++) {
+        put("call ");
+        put(names[kind]);
+        put(" ");
+        put_number(most[kind].instructions, 10);
+        put(" ");
+        put_number(most[kind].stack, 10);
+        put("\n");
+    }
+}
+
 int main(void) {
     unsigned scenario = 0, at_line = 0;
-    int counts = 0;
     static call one;
     count_instructions();
-    const uint32_t handing_over = empty();
+    handing_over = empty();
     while (read_line()) {
         uint32_t status, took;
         uint64_t stack;
@@ -171,12 +240,15 @@ int main(void) {
             counts = 1;
         } else if (read_call(&one)) {
             take(&one, &status, &took, &stack);
-            if (counts)
+            if (counts) {
                 put_row(scenario, at_line, status, took - handing_over, stack);
+                count_others();
+            }
         } else {
             put("not a line of a scenario\n");
         }
     }
+    put_others();
     put("end\n");
     return 0;
 }

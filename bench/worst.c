@@ -1,6 +1,6 @@
 /* Runs scenarios by the calls of include/etcs_unit.h, and marks for callgrind where each counted call ends.
  *
- *     worst [show | mute | stack]    read scenarios from standard input, an input a line
+ *     worst [show | mute | stack | calls]    read scenarios from standard input, an input a line
  *
  * The lines (those of tests/unit/life.c mean the same):
  *
@@ -20,7 +20,10 @@
  * PEAK the most within it, REQUESTS how often it asked for memory, GREATEST the largest request. STACK is how far down the
  * call wrote on the stack, where `stack` is asked for: the room below the harness is filled before each call, and looked
  * through after it. The linker hands the library's requests to the functions below (--wrap=malloc,--wrap=realloc,
- * --wrap=free). */
+ * --wrap=free).
+ *
+ * With `calls` the rest of a cycle follows each counted call, and a power-up sector by sector: callgrind writes what each of these calls took
+ * ("call NAME"). */
 #include <inttypes.h>
 #include <valgrind/callgrind.h>
 
@@ -217,6 +220,57 @@ static void count_one(const struct input *in) {
            greatest, stack);
 }
 
+/* ---- the other calls of a cycle, and of a power-up sector by sector */
+
+#define COUNTED(name, status, call)                       \
+    do {                                                  \
+        CALLGRIND_ZERO_STATS;                             \
+        (status) = (call);                                \
+        if ((status) == ETCS_UNIT_OK)                     \
+            CALLGRIND_DUMP_STATS_AT("call etcs_unit_" name); \
+    } while (0)
+
+/* (the header has this call's code, so it is a function of this program here) */
+__attribute__((noinline, noclone)) static uint32_t etcs_unit_commanded_(const etcs_unit_output *outputs, uint32_t count, etcs_unit_output *command) {
+    return etcs_unit_command(outputs, count, command);
+}
+
+static void count_release(void) {
+    static uint8_t bytes[ETCS_UNIT_REQUEST_BYTES];
+    etcs_unit_output outputs[ETCS_UNIT_OUTPUTS], command = last;
+    etcs_unit_request_info request;
+    uint32_t count = 0, status = ETCS_UNIT_OK;
+    while (status == ETCS_UNIT_OK) {
+        COUNTED("request", status, etcs_unit_request(&unit, &request, bytes, sizeof bytes));
+        if (status != ETCS_UNIT_OK)
+            break;
+        do_on(&disk, &request, bytes);
+        if (request.kind == ETCS_REQUEST_READ)
+            COUNTED("provide", status, etcs_unit_provide(&unit, request.sector, sector_of(&disk, request.sector), ETCS_UNIT_SECTOR));
+        else
+            COUNTED("done", status, etcs_unit_done(&unit));
+    }
+    COUNTED("release", status, etcs_unit_release(&unit, outputs, ETCS_UNIT_OUTPUTS, &count));
+    COUNTED("command", status, etcs_unit_commanded_(outputs, count, &command));
+    pending = 0;
+}
+
+static void count_calls(void) {
+    etcs_unit_state_info state;
+    etcs_unit_why_info why;
+    etcs_unit_driver_info driver;
+    uint32_t status = etcs_unit_prepare(&unit);
+    if (status == ETCS_UNIT_OK)
+        count_release();
+    COUNTED("state", status, etcs_unit_state(&unit, &state));
+    COUNTED("why", status, etcs_unit_why(&unit, &why));
+    COUNTED("driver", status, etcs_unit_driver(&unit, &driver));
+    etcs_unit_close(&unit);
+    COUNTED("begin", status, etcs_unit_begin(&unit, disk.len / ETCS_UNIT_SECTOR, ETCS_COLD_UNKNOWN));
+    if (status == ETCS_UNIT_OK)
+        count_release();
+}
+
 /* Makes the medium an empty journal. */
 static void format(uint32_t slots) {
     etcs_unit_request_info request;
@@ -232,6 +286,7 @@ int main(int count, char **words) {
     char line[LINE];
     size_t stack;
     int counts = 0;
+    const int counts_calls = count > 1 && strcmp(words[1], "calls") == 0;
     measures_stack = count > 1 && strcmp(words[1], "stack") == 0;
     shows = count > 1 && strcmp(words[1], "show") == 0;
     disk.bytes = sectors;
@@ -254,6 +309,8 @@ int main(int count, char **words) {
             counts = 1;
         } else if (counts) {
             count_one(&in);
+            if (counts_calls)
+                count_calls();
         } else {
             take(&in, &stack);
             if (in.kind == FLUSH || in.kind == COLD)

@@ -50,6 +50,7 @@ esac
 
 printf '%-44s %12s %12s %5s %8s\n' 'instructions of a call' now found mode limit
 search --count | awk -F '\t' '{ printf "%-44s %12d %12d %5s %8d\n", $1, $2, $5, $3, $4 }'
+search --calls | awk -F '\t' '{ printf "%-44s %12d\n", $1, $2 }'
 printf '\n%-44s %9s %9s %9s %9s %9s\n' 'bytes' held peak requests greatest stack
 search --memory | awk -F '\t' '{ printf "%-44s %9d %9d %9d %9d %9d\n", $1, $2, $3, $4, $5, $6 }'
 printf '\n%-44s %12s %12s\n' 'what one more costs' few many

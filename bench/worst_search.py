@@ -12,6 +12,8 @@
                                                      where each is faster than the nearer one, and where each is slower
     bench/worst_search.py --kept                     print the kept ones, with all lines of each
     bench/worst_search.py --memory                   heap and stack of each call: KIND, HELD, PEAK, REQUESTS, GREATEST, STACK
+    bench/worst_search.py --calls                    the most that the other calls of a cycle take after the kept ones, and those of a power-up sector
+                                                     by sector: NAME, INSTRUCTIONS
     bench/worst_search.py --help                     print this
 
 bench/worst.sh builds what it runs (bench/out/worst), and explains more.
@@ -39,6 +41,7 @@ from place import Sums  # noqa: E402
 OUT, SCENARIOS = TOP / "bench" / "out", TOP / "bench" / "worst.scenarios"
 
 CALLS = ("open", "telegram", "odometer", "clock", "action", "identity", "running_number", "train_data", "prepare")
+OTHER_CALLS = ("request", "provide", "done", "release", "commanded", "state", "why", "driver", "begin")
 
 ACTIONS = {1: "choose level 0", 2: "choose level 1", 3: "confirm identity", 4: "confirm running number", 5: "confirm train data",
            6: "confirm level", 7: "start", 8: "choose shunting", 9: "leave shunting", 10: "override", 11: "acknowledge trip",
@@ -423,22 +426,38 @@ def run_program(program, scenarios, *words):
 def counted(scenarios, shows=False):
     """What callgrind counted of each counted line: (scenario, line) to (instructions, status, mode, limit). Mode and limit are those after
     the line where `shows` asks for them."""
-    profile = OUT / f"profile.{os.getpid()}"
-    toggles = [f"--toggle-collect=etcs_unit_{call}_" for call in CALLS]
+    # (words of the same length, since counts depend on the place of the stack)
+    lines, dumps = profiled(CALLS, scenarios, "show" if shows else "mute")
+    took = {tuple(map(int, label.split()[1::2])): instructions for label, instructions in dumps}
+    return {(at, line): (took[at, line], status, mode, limit) for at, line, status, mode, _, _, limit, *_ in lines}
+
+
+def profiled(calls, scenarios, word):
+    """The lines that the program printed, and of each dump of callgrind its label and the instructions within these calls."""
+    profile, label, dumps = OUT / f"profile.{os.getpid()}", None, []
+    toggles = [f"--toggle-collect=etcs_unit_{call}_" for call in calls]
     lines = run_program(["valgrind", "--tool=callgrind", f"--callgrind-out-file={profile}", "--combine-dumps=yes", "--collect-atstart=no", *toggles],
-                scenarios, "./worst", "show" if shows else "mute")  # (of the same length, since counts depend on the place of the stack)
-    took = {}
-    label = None
-    with open(profile) as dumps:
-        for line in dumps:
+                        scenarios, "./worst", word)
+    with open(profile) as file:
+        for line in file:
             if line.startswith("desc: Trigger: "):
-                found = re.search(r"scenario (\d+) line (\d+)", line)
-                label = found and (int(found[1]), int(found[2]))
+                found = re.search(r"(scenario \d+ line \d+|call \w+)$", line.rstrip())
+                label = found and found[1]
             elif line.startswith("summary: ") and label:
-                took[label] = int(line.split()[1])
+                dumps.append((label, int(line.split()[1])))
                 label = None
     profile.unlink()
-    return {(at, line): (took[at, line], status, mode, limit) for at, line, status, mode, _, _, limit, *_ in lines}
+    return lines, dumps
+
+
+def other_calls():
+    most = {}
+    for label, instructions in profiled(OTHER_CALLS, [(4, lines) for _, _, lines in kept()], "calls")[1]:
+        word, name = label.split()[:2]
+        if word == "call":
+            most[name] = max(instructions, most.get(name, 0))
+    for name, instructions in most.items():
+        print(name, instructions, sep="\t")
 
 
 def counted_lines(many):
@@ -791,7 +810,7 @@ TWICE = {"grades": 690, "statics": [(4_374, 23), (4_375, 127)], "restricted": [(
 
 def main(words):
     numbers = [word for word in words if word.isdigit()]
-    usage.check(__doc__, len(words) == 1 and words[0] in ("--grown", "--stairs", "--hand", "--count", "--kept", "--memory", "--more")
+    usage.check(__doc__, len(words) == 1 and words[0] in ("--grown", "--stairs", "--hand", "--count", "--kept", "--memory", "--more", "--calls")
                 or len(numbers) == 2 and [word for word in words if word not in numbers] in ([], ["--minutes"]))
     if words == ["--grown"]:
         grown()
@@ -809,6 +828,8 @@ def main(words):
             print(f"scenario 4 {took} {kind}", *lines, sep="\n")
     elif words == ["--memory"]:
         memory()
+    elif words == ["--calls"]:
+        other_calls()
     elif words == ["--more"]:
         more()
     else:

@@ -50,8 +50,7 @@ PLANTED = [
      "return values.staff_responsible", "H6", "restrictions", "SR"),
     ("D_NVROLL is 20 m", "national.py", "roll: int = 200", "roll: int = 2000", "H4", "rolling back", "SR"),
     ("forward movements are subtracted from backward ones", "output.py", " if entry.moved < 0)", ")", "H4", "rolling back", "SR"),
-    ("the identity revalidates by itself", "history.py", 'return identity and level and ("choose-shunting" in words',
-     'return identity or ("choose-shunting" in words', "H3", "revalidation", "SB"),
+    ("the identity revalidates by itself", "history.py", "return identity and level and left", "return identity", "H3", "revalidation", "SB"),
     ("far too fast commands nothing", "output.py", "emergency  from   above the limit by 10000  until  speed 0 read\n", "", "H2", "each mode", "SR"),
     ("far too fast is 200 km/h", "output.py", "moment[1] > moment[2] + 10_000", "moment[1] > moment[2] + 200_000", "H2", "each mode", "SR"),
     ("the trip comes 1 km late", "history.py", "self.stretch().min_front > end.place", "self.stretch().min_front > end.place + 100_000", "H5",
@@ -166,7 +165,9 @@ class Rows:
                 print(f"tests/oracle/hazard_rows.py: a fault of {DEEP_DEPTH} symbols: {found or 'not found'}, {alphabet} to {depth}, {states} states")
 
     def planted(self, few):
-        """The searches of the plain kernel."""
+        """The searches of the plain kernel, in which the text of each change has to occur once."""
+        for says, file, old, *_ in PLANTED:
+            self.is_so(says, (count := (TOP / "tests/plain" / file).read_text().count(old)) == 1, f"the text occurs {count} times")
         for says, *plant, hazard, track, begin in PLANTED[:few]:
             since, found = time.process_time(), in_copy(plant, hazard, track, begin)
             self.is_so(says, found and "unexplained" in found, found)

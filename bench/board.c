@@ -18,7 +18,7 @@
 enum { MOST_SLOTS = 64 };
 
 static uint8_t medium[(1 + 6 * MOST_SLOTS) * ETCS_UNIT_SECTOR];
-static _Alignas(16) uint8_t buffer[ETCS_MEMORY_BYTES(MOST_SLOTS, 264, 400, 9000, 9000)];
+static _Alignas(16) uint8_t buffer[ETCS_MEMORY_BYTES(264, 400, 9000, 9000)];
 static size_t length;
 static etcs_unit unit;
 static unsigned pending;

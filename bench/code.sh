@@ -33,11 +33,10 @@ flags=("${@:3}")
 read -r -d '' -a all <<<"$(calls etcs_)"
 read -r -d '' -a guard <<<"$(calls etcs_guard)"
 read -r -d '' -a image <<<"$(calls etcs_image etcs_journal)"
-read -r -d '' -a unit <<<"$(calls etcs_unit | grep -v -e open_ -e why_ -e driver_)"
-row "the unit, sector by sector" "${unit[@]}"
-row "with a copy" "${unit[@]}" etcs_unit_open_
-row "with a copy, etcs_unit_why and etcs_unit_driver" "${unit[@]}" etcs_unit_open_ etcs_unit_why_ etcs_unit_driver_
-row "the unit, sector by sector, and the guard" "${unit[@]}" "${guard[@]}"
+read -r -d '' -a unit <<<"$(calls etcs_unit | grep -v -e why_ -e driver_)"
+row "the unit" "${unit[@]}"
+row "the unit, etcs_unit_why and etcs_unit_driver" "${unit[@]}" etcs_unit_why_ etcs_unit_driver_
+row "the unit and the guard" "${unit[@]}" "${guard[@]}"
 row "the guard" "${guard[@]}"
 row "images and their replay" "${image[@]}"
 row "all" "${all[@]}"

@@ -1,11 +1,11 @@
 /* A life of BATCHES batches of eight through the calls of include/etcs_unit.h, on four slots in memory that are used again: readings of 1 cm in
- * Full Supervision, or moments of the clock in Stand By. Or an opening, over a copy or by sectors, on a ring of so many slots that was written over.
+ * Full Supervision, or moments of the clock in Stand By. Or an opening on a ring of so many slots that was written over.
  * Or a telegram, decoded and heard by a
  * guard eight times a batch. bench/unit.sh counts within its calls.
  *
  *     unit BATCHES [s]
  *     unit BATCHES guard
- *     unit open SLOTS copy|sectors */
+ *     unit open SLOTS */
 #include <stdlib.h>
 
 #include "../tests/unit/medium.h"
@@ -17,12 +17,11 @@ static const uint8_t authority[] = {0x90, 0x00, 0x7F, 0x80, 0x20, 0x01, 0x43, 0x
 static const etcs_train_data train = {20000, 160000, 70, 0, 15};
 
 /* The opening that is counted. */
-__attribute__((noinline)) static uint32_t opened(const medium *on, etcs_unit *unit, int by_sectors) {
-    uint64_t sectors;
-    return by_sectors ? opened_by_sectors(on, unit, ETCS_COLD_UNKNOWN, &sectors) : etcs_unit_open(unit, on->bytes, on->len, ETCS_COLD_UNKNOWN);
+__attribute__((noinline)) static uint32_t opened(const medium *on, etcs_unit *unit) {
+    return etcs_unit_open(unit, on->bytes, on->len, ETCS_COLD_UNKNOWN);
 }
 
-static uint32_t open_on(uint32_t slots, int by_sectors) {
+static uint32_t open_on(uint32_t slots) {
     etcs_unit_output outputs[ETCS_UNIT_OUTPUTS];
     etcs_unit unit = {0};
     uint32_t released, wrong;
@@ -30,7 +29,7 @@ static uint32_t open_on(uint32_t slots, int by_sectors) {
     wrong = powered_up(&on, &unit, ETCS_COLD_UNKNOWN);
     for (uint32_t moment = 0; moment <= slots; moment++)
         wrong |= etcs_unit_clock(&unit, moment) | flushed(&on, &unit, outputs, &released);
-    wrong |= etcs_unit_close(&unit) | opened(&on, &unit, by_sectors) | etcs_unit_close(&unit);
+    wrong |= etcs_unit_close(&unit) | opened(&on, &unit) | etcs_unit_close(&unit);
     free(on.bytes);
     return wrong;
 }
@@ -50,8 +49,8 @@ int main(int count, char **words) {
     uint32_t released, wrong = 0;
     if (count == 3 && strcmp(words[2], "guard") == 0)
         return guarded(atoi(words[1])) != 0;
-    if (count == 4)
-        return open_on((uint32_t)atoi(words[2]), strcmp(words[3], "sectors") == 0) != 0;
+    if (count == 3 && strcmp(words[1], "open") == 0)
+        return open_on((uint32_t)atoi(words[2])) != 0;
     medium on = formatted(4);
     const int supervised = count > 2, batches = count > 1 ? atoi(words[1]) : 24;
     wrong |= powered_up(&on, &unit, ETCS_COLD_UNKNOWN);

@@ -1,7 +1,7 @@
 #!/bin/sh
 # Print what an event costs through the calls of include/etcs_unit.h, next to the same call in Rattle: the instructions within an
 # accept and within an eighth of a flush (prepare, each request with its bytes, done, release). Then a telegram that a guard hears,
-# next to its decoding; and an opening by sectors next to one over a copy, on rings that were written over.
+# next to its decoding; and an opening, on rings that were written over.
 #
 #     bench/unit.sh PREFIX    the library below PREFIX (tools/library PREFIX)
 #     bench/unit.sh --help    print this
@@ -75,7 +75,7 @@ row 'an eighth of a flush, prepare alone' "$(event_of ./unit s etcs_unit_prepare
 printf '\n%-60s %8s %8s\n' 'a telegram of 31 bytes' 'guard' 'decoded'
 printf '%-60s %8d %8d\n' 'heard in Full Supervision' "$(event_of ./unit guard etcs_guard_hear_)" "$(event_of ./unit guard etcs_decode)"
 
-printf '\n%-60s %10s %10s\n' 'an opening' 'by sectors' 'a copy'
+printf '\n%-60s %10s\n' 'an opening' ''
 for slots in 4 64 1000 7200; do
-    printf '%-60s %10d %10d\n' "of $slots slots" "$(collected ./unit "open $slots sectors" opened)" "$(collected ./unit "open $slots copy" opened)"
+    printf '%-60s %10d\n' "of $slots slots" "$(collected ./unit "open $slots" 'opened*')"
 done

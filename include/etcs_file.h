@@ -15,8 +15,8 @@
  *     ...
  *     etcs_file_close(&file, &unit);
  *
- * etcs_file_open_by_sectors, in place of etcs_file_open, keeps no copy of the file: it reads a sector as the unit asks for it,
- * and so does each later flush. The unit then takes as much memory whatever the file's size; all else is the same.
+ * A sector is read as the unit asks for it, at the power-up and in each flush: nothing keeps a copy of the file, and the unit
+ * takes as much memory whatever the file's size.
  *
  * Each call answers what failed (enum etcs_file_answer). Where the system failed, `error` of the file has its errno;
  * where the unit answered something else than OK, `status` has it (enum etcs_unit_status). ANY ANSWER BUT ETCS_FILE_OK
@@ -44,7 +44,6 @@
 
 #include <errno.h>
 #include <fcntl.h>
-#include <stdlib.h>
 #include <string.h>
 #include <sys/file.h>
 #include <sys/stat.h>
@@ -70,7 +69,6 @@ enum etcs_file_answer {
     ETCS_FILE_CANT_READ = 4,  /**< the size or the bytes can't be read */
     ETCS_FILE_CANT_WRITE = 5, /**< a write, or setting the length, failed */
     ETCS_FILE_CANT_SYNC = 6,  /**< a sync failed, of the file or its folder, or the system drops no copies of pages */
-    ETCS_FILE_NO_MEMORY = 7,  /**< there is no memory for the bytes of the file */
     ETCS_FILE_WRONG_SIZE = 8, /**< formatting: a device that hasn't just 1 + 6 * slots sectors */
     ETCS_FILE_UNIT = 9        /**< the unit refused; `status` says why */
 };
@@ -90,7 +88,7 @@ typedef struct {
  * numbers. */
 static inline const char *etcs_file_answer_name(uint32_t number) {
     static const char *const names[] = {
-        "OK", "CANT_OPEN", "LOCKED", "CANT_LOCK", "CANT_READ", "CANT_WRITE", "CANT_SYNC", "NO_MEMORY", "WRONG_SIZE",
+        "OK", "CANT_OPEN", "LOCKED", "CANT_LOCK", "CANT_READ", "CANT_WRITE", "CANT_SYNC", NULL, "WRONG_SIZE",
         "UNIT", "NO_ARCHIVE", "NO_MARKS", "BAD_MARK"
     };
     return etcs_name_(names, (uint32_t)(sizeof names / sizeof names[0]), number);
@@ -234,56 +232,6 @@ static inline uint32_t etcs_file_do_(etcs_file *file, const etcs_unit_request_in
     return etcs_file_sync_(file, etcs_file_at_(file));
 }
 
-/* How many bytes the unit is to be handed: all whole sectors; but where the first one isn't that of a journal of this
- * size, that one alone, which the unit refuses just as it does all of them. */
-static inline uint32_t etcs_file_size_(etcs_file *file, size_t *len) {
-    uint8_t first[ETCS_UNIT_SECTOR];
-    etcs_image facts;
-    const off_t end = lseek(file->descriptor, 0, SEEK_END);
-    if (end < 0)
-        return etcs_file_failed_(file, ETCS_FILE_CANT_READ);
-    *len = (size_t)end / ETCS_UNIT_SECTOR * ETCS_UNIT_SECTOR;
-    if (*len == 0)
-        return ETCS_FILE_OK;
-    const uint32_t answer = etcs_file_read_(file, first, sizeof first, 0);
-    if (answer == ETCS_FILE_OK && (etcs_image_facts(first, sizeof first, &facts) != ETCS_UNIT_OK
-                                   || *len / ETCS_UNIT_SECTOR != 1 + 6 * facts.slots))
-        *len = sizeof first;
-    return answer;
-}
-
-/* The bytes that the unit is to be handed, for the caller to free; NULL where that failed. */
-static inline uint8_t *etcs_file_bytes_(etcs_file *file, size_t *len, uint32_t *answer) {
-    *answer = etcs_file_size_(file, len);
-    if (*answer != ETCS_FILE_OK)
-        return NULL;
-    uint8_t *bytes = (uint8_t *)malloc(*len + 1);
-    if (bytes == NULL) {
-        *answer = etcs_file_failed_(file, ETCS_FILE_NO_MEMORY);
-        return NULL;
-    }
-    *answer = etcs_file_read_(file, bytes, *len, 0);
-    if (*answer == ETCS_FILE_OK)
-        return bytes;
-    free(bytes);
-    return NULL;
-}
-
-static inline uint32_t etcs_file_open_(etcs_file *file, const char *path, etcs_unit *unit, uint32_t cold) {
-    size_t len = 0;
-    uint32_t answer = etcs_file_lock_(file, path, 0);
-    if (answer == ETCS_FILE_OK)
-        answer = etcs_file_settle_(file);
-    if (answer != ETCS_FILE_OK)
-        return answer;
-    uint8_t *bytes = etcs_file_bytes_(file, &len, &answer);
-    if (bytes == NULL)
-        return answer;
-    answer = etcs_file_status_(file, etcs_unit_open(unit, bytes, len, cold));
-    free(bytes);
-    return answer;
-}
-
 /* Carries out one request of the unit. Where the file fails it reports that to the unit. */
 static inline uint32_t etcs_file_serve_(etcs_file *file, etcs_unit *unit, const etcs_unit_request_info *request, uint8_t *bytes) {
     const int is_read = request->kind == ETCS_REQUEST_READ;
@@ -313,7 +261,7 @@ static inline uint32_t etcs_file_power_up_(etcs_file *file, etcs_unit *unit, uin
     return answer;
 }
 
-static inline uint32_t etcs_file_open_by_sectors_(etcs_file *file, const char *path, etcs_unit *unit, uint32_t cold) {
+static inline uint32_t etcs_file_open_(etcs_file *file, const char *path, etcs_unit *unit, uint32_t cold) {
     uint32_t answer = etcs_file_lock_(file, path, 0);
     if (answer == ETCS_FILE_OK)
         answer = etcs_file_settle_(file);
@@ -362,30 +310,16 @@ static inline uint32_t etcs_file_is_open_(etcs_file *file) {
 
 /* ---- the calls */
 
-/** Opens and locks the file, settles and reads it, and powers the unit up on it. Call it after each power-up; then
- * etcs_file_flush carries out the requests of the power-up. Where the file or the unit is open already, it answers UNIT
- * (IS_OPEN), and both stay so. After any other answer than OK the file isn't open and is as it was, and the unit is as
- * before. It takes memory for the bytes of the file while it runs; of a file whose first sector isn't that of a journal of
- * its size it reads no more than that. */
+/** Opens and locks the file, settles it, and powers the unit up on the sectors that the unit asks for. Call it after each
+ * power-up; then etcs_file_flush carries out the requests of the power-up. Where the file or the unit is open already, it
+ * answers UNIT (IS_OPEN), and both stay so. After any other answer than OK the file isn't open and is as it was, and the unit
+ * is as before. */
 ETCS_MUST_USE
 static inline uint32_t etcs_file_open(etcs_file *file, const char *path, etcs_unit *unit, uint32_t cold) {
     etcs_unit_state_info state;
     if (etcs_file_at_(file) >= 0 || etcs_unit_state(unit, &state) == ETCS_UNIT_OK)
         return etcs_file_is_open_(file);
     const uint32_t answer = etcs_file_open_(file, path, unit, cold);
-    if (answer != ETCS_FILE_OK)
-        etcs_file_shut_(file);
-    return answer;
-}
-
-/** Does the same without a copy of the file. Call it in place of etcs_file_open: it reads only the sectors that the power-up
- * needs, one after the other, and takes no memory for others. */
-ETCS_MUST_USE
-static inline uint32_t etcs_file_open_by_sectors(etcs_file *file, const char *path, etcs_unit *unit, uint32_t cold) {
-    etcs_unit_state_info state;
-    if (etcs_file_at_(file) >= 0 || etcs_unit_state(unit, &state) == ETCS_UNIT_OK)
-        return etcs_file_is_open_(file);
-    const uint32_t answer = etcs_file_open_by_sectors_(file, path, unit, cold);
     if (answer != ETCS_FILE_OK)
         etcs_file_shut_(file);
     return answer;

@@ -3,12 +3,12 @@
  * Memory of the maker's own for the onboard unit: of the variant of the library that takes none from a C library
  * (libetcs_unit_static.a, and all libraries for machines without one).
  *
- *     static uint8_t arena[ETCS_MEMORY_BYTES(64, 16, 32, 100, 100)];
+ *     static uint8_t arena[ETCS_MEMORY_BYTES(16, 32, 100, 100)];
  *
  *     if (etcs_memory_use(arena, sizeof arena) != ETCS_UNIT_OK)
  *         brake();
  *     ...
- *     if (etcs_unit_open(&unit, image, size, ETCS_COLD_UNKNOWN) != ETCS_UNIT_OK)
+ *     if (etcs_unit_begin(&unit, sectors, ETCS_COLD_UNKNOWN) != ETCS_UNIT_OK)
  *
  * All that the library takes comes from this buffer, and goes back there. Each request takes a time that doesn't depend
  * on what was taken and given back before, but for the bytes that a piece has which is moved: the allocator is TLSF (two
@@ -46,7 +46,6 @@ extern "C" {
 
 /** What one unit, alone on a buffer, needs at most, in bytes, of:
  *
- * - slots: of its medium, which has 1 + 6 * slots sectors; 0 where it holds no copy of that (etcs_unit_begin);
  * - packets: that the telegrams of one group have together, at most (264: eight telegrams of 33);
  * - restrictions: temporary speed restrictions in force at once, from 1 km behind the train onward, with those ahead;
  * - gradients, speeds: segments of the gradient profile and of the static speed profile, from 1 km behind the train onward,
@@ -54,10 +53,9 @@ extern "C" {
  *
  * A unit that got so much is never refused memory after its opening, as long as the track keeps to these numbers:
  * docs/explain/integration.md says why, and how it was tested. */
-#define ETCS_MEMORY_BYTES(slots, packets, restrictions, gradients, speeds)                                             \
-    (UINT64_C(32768) + UINT64_C(3072) * (uint64_t)(slots) + UINT64_C(7168) * (uint64_t)(packets)                       \
-     + UINT64_C(136) * (uint64_t)(restrictions) + UINT64_C(68) * (uint64_t)(gradients)                                 \
-     + UINT64_C(136) * (uint64_t)(speeds))
+#define ETCS_MEMORY_BYTES(packets, restrictions, gradients, speeds)                                                    \
+    (UINT64_C(32768) + UINT64_C(7168) * (uint64_t)(packets) + UINT64_C(136) * (uint64_t)(restrictions)                 \
+     + UINT64_C(68) * (uint64_t)(gradients) + UINT64_C(136) * (uint64_t)(speeds))
 
 /** What of the buffer is out. */
 typedef struct {

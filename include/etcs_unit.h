@@ -48,8 +48,8 @@
  * etcs_file.h has one for a POSIX file, and etcs_executive.h has all that a cycle owes. The release of a power-up hands out
  * no output: until the first one, obey the emergency brake, with which `command` begins.
  *
- * Such a unit takes as much memory whatever the medium's size. Where all sectors are in memory already, etcs_unit_open takes
- * them in place of etcs_unit_begin, and keeps a copy; such a unit never asks for a read.
+ * A unit takes as much memory whatever the medium's size: it holds 16 sectors. Where all of them are in memory, etcs_unit_open
+ * answers the reads of the power-up. A later preparation may ask for a read too, so the loop above serves each unit.
  *
  * ANY ANSWER BUT ETCS_UNIT_OK MEANS THE EMERGENCY BRAKE, unless it is a mistake that is put right before the next
  * output is due: etcs_status_classify sorts the answers. Hold that brake, whatever is released, until the unit was closed
@@ -63,16 +63,15 @@
  *   closed nobody copies it, moves it or writes to it;
  * - each other pointer is good for what it points to: a buffer for its length, a struct for its size; nobody else
  *   writes there, and none of them overlap, while the call runs;
- * - the sectors that are handed to etcs_unit_open are those of the medium, a sector that is handed in later is what the
- *   medium holds then, of which each request that was said to be done was carried out, and nobody but this unit writes
- *   there from its power-up until it is closed;
+ * - a sector that is handed in is what the medium holds then, of which each request that was said to be done was carried
+ *   out, and nobody but this unit writes there from its power-up until it is closed;
  * - requests are carried out in their order, each whole before the next one, and are said to be done only then;
  * - the value on movements without power is true (ETCS_COLD_UNKNOWN in doubt, and where a unit is opened after a fault).
  *
  * A unit is for one call at a time. It may be handed from one task to another, as from the one that opens it to a cyclic
  * one, where a lock (or a queue, or the start of the task) orders their calls: the library keeps nothing except its units,
  * and nothing per thread. Units share nothing, so different ones may be called from different threads at once; but where
- * memory is of the maker's own, see etcs_memory.h. Memory is taken by etcs_unit_open, by etcs_unit_begin and
+ * memory is of the maker's own, see etcs_memory.h. Memory is taken by etcs_unit_begin and
  * etcs_unit_provide until the power-up is through, and by the calls that take an input; close gives all of it back. No call
  * blocks, and none is for a signal handler or an interrupt.
  *
@@ -137,7 +136,7 @@ enum etcs_unit_status {
     ETCS_UNIT_OK = 0, /**< the call did what it was asked */
 
     /* opening */
-    ETCS_UNIT_OPEN_DEVICE_FAULT = 1,  /**< never met: there is room for all requests; proved over a copy alone */
+    ETCS_UNIT_OPEN_DEVICE_FAULT = 1,  /**< never met: there is room for all requests */
     ETCS_UNIT_OPEN_NOT_FORMATTED = 2, /**< the first sector isn't that of a journal, or there is none */
     ETCS_UNIT_OPEN_DAMAGED = 3,       /**< the size isn't that of the slots, or the newest block isn't readable */
     ETCS_UNIT_OPEN_NO_MEMORY = 4,     /**< there is no memory for the unit and what it holds of the medium */
@@ -531,7 +530,6 @@ ETCS_UNIT_ASSERT(sizeof(etcs_packet_unused) == 24u && offsetof(etcs_packet_unuse
 uint32_t etcs_version_(uint8_t *out, uint64_t room, uint32_t *len);
 uint32_t etcs_build_info_(uint8_t *out, uint64_t room, uint32_t *len);
 uint32_t etcs_unit_begin_(etcs_unit *unit, uint64_t sectors, uint32_t cold, uint32_t abi);
-uint32_t etcs_unit_open_(etcs_unit *unit, const uint8_t *image, uint64_t len, uint32_t cold, uint32_t abi);
 uint32_t etcs_unit_telegram_(etcs_unit *unit, const uint8_t *bytes, uint64_t len);
 uint32_t etcs_unit_odometer_(etcs_unit *unit, int64_t movement_cm, uint32_t speed_m_per_h);
 uint32_t etcs_unit_clock_(etcs_unit *unit, uint64_t moment_ms);
@@ -784,13 +782,23 @@ static inline uint32_t etcs_unit_begin(etcs_unit *unit, uint64_t sectors, uint32
     return (unit != NULL) ? etcs_unit_begin_(unit, sectors, cold, ETCS_UNIT_ABI) : (uint32_t)ETCS_UNIT_NULL_POINTER;
 }
 
-/** Powers up a unit on the bytes of its medium: `len` bytes, all of it, of which the unit keeps a copy. Call it in place of
- * etcs_unit_begin, where all of them are in memory. The unit is open then, with the requests of its power-up. Returns OK,
- * IS_OPEN, OTHER_ABI, OUT_OF_RANGE (`cold`), or a status of opening. After any answer but OK the unit is as before. It takes
- * memory for the copy, some 9 kB of requests, and the unit. */
+/** Begins a power-up on the bytes of its medium, `len` bytes, all of it, and answers its reads from them. Call it in place of
+ * etcs_unit_begin, where all of them are in memory. The unit is open then, with the requests of its power-up. It keeps no copy:
+ * etcs_unit_request may report a READ after each etcs_unit_prepare. Returns OK, IS_OPEN, OTHER_ABI, OUT_OF_RANGE (`cold`), or a
+ * status of opening. After any answer but OK the unit is as before. */
 ETCS_MUST_USE
 static inline uint32_t etcs_unit_open(etcs_unit *unit, const uint8_t *image, size_t len, uint32_t cold) {
-    return ((unit != NULL) && (image != NULL)) ? etcs_unit_open_(unit, image, len, cold, ETCS_UNIT_ABI) : (uint32_t)ETCS_UNIT_NULL_POINTER;
+    uint32_t status = (uint32_t)ETCS_UNIT_NULL_POINTER;
+    if ((unit != NULL) && (image != NULL)) {
+        etcs_unit_request_info next = {0, 0, 0};
+        uint8_t none = 0;
+        status = etcs_unit_begin_(unit, len / (size_t)ETCS_UNIT_SECTOR, cold, ETCS_UNIT_ABI);
+        while ((status == (uint32_t)ETCS_UNIT_OK) && (etcs_unit_request_(unit, &next, &none, 0) == (uint32_t)ETCS_UNIT_OK)
+               && (next.kind == (uint64_t)ETCS_REQUEST_READ)) {
+            status = etcs_unit_provide_(unit, next.sector, &image[(size_t)next.sector * (size_t)ETCS_UNIT_SECTOR], ETCS_UNIT_SECTOR);
+        }
+    }
+    return status;
 }
 
 /* ---- inputs: each takes one input into memory, also while requests are carried out. Nothing is released. They answer
@@ -843,8 +851,8 @@ static inline uint32_t etcs_unit_train_data(etcs_unit *unit, const etcs_train_da
 /* ---- from inputs to outputs */
 
 /** Turns the accepted inputs into requests for the medium, and holds their outputs back. Call it once a cycle, after the
- * inputs; without inputs the list stays empty. Then carry out what etcs_unit_request reports. Where the unit holds no copy
- * of its medium that may be to read a sector first. Returns OK, NOT_OPEN, or a status of preparing. */
+ * inputs; without inputs the list stays empty. Then carry out what etcs_unit_request reports. That may be
+ * to read a sector first. Returns OK, NOT_OPEN, or a status of preparing. */
 ETCS_MUST_USE
 static inline uint32_t etcs_unit_prepare(etcs_unit *unit) {
     return (unit != NULL) ? etcs_unit_prepare_(unit) : (uint32_t)ETCS_UNIT_NULL_POINTER;

@@ -19,7 +19,8 @@ interface Exports {
     etcs_decode(bytes: bigint, len: bigint): number;
     etcs_packet_count(bytes: bigint, len: bigint): number;
     etcs_version_(out: bigint, room: bigint, len: bigint): number;
-    etcs_unit_open_(unit: bigint, image: bigint, size: bigint, cold: number, abi: number): number;
+    etcs_unit_open(unit: bigint, image: bigint, size: bigint, cold: number): number;
+    etcs_unit_provide_(unit: bigint, sector: bigint, bytes: bigint, size: bigint): number;
     etcs_unit_telegram_(unit: bigint, bytes: bigint, len: bigint): number;
     etcs_unit_odometer_(unit: bigint, movement: bigint, speed: number): number;
     etcs_unit_clock_(unit: bigint, moment: bigint): number;
@@ -166,7 +167,11 @@ export class Calls {
 
     freeUnit(unit: bigint): void { this.x.etcs_memory_give(unit); }
     open(unit: bigint, image: Held, cold: number): number {
-        return this.x.etcs_unit_open_(unit, image.at, BigInt(image.size), cold, ABI);
+        return this.x.etcs_unit_open(unit, image.at, BigInt(image.size), cold);
+    }
+    provide(unit: bigint, sector: number, medium: Held): number {
+        const at = medium.at + BigInt(SECTOR * sector);
+        return this.x.etcs_unit_provide_(unit, BigInt(sector), at, BigInt(SECTOR));
     }
     close(unit: bigint): number { return this.x.etcs_unit_close_(unit); }
     telegram(unit: bigint, bytes: Uint8Array): number {

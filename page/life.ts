@@ -147,15 +147,23 @@ export class Life {
         return released;
     }
 
-    /** Takes all requests, for the page to show them: they are carried out later, but before anything is released. */
+    /**
+     * Answers the reads, and takes all other requests, for the page to show them: they are carried out later, but before
+     * anything is released.
+     */
     private asked(): Asked[] {
         const list: Asked[] = [];
         for (;;) {
             const { status, value } = this.calls.request(this.unit);
             if (status === NO_SUCH_REQUEST) return list;
             must(status);
-            list.push(value as Asked);
-            must(this.calls.done(this.unit));
+            const one = value as Asked;
+            if (one.request.isRead) {
+                must(this.calls.provide(this.unit, one.request.sector, this.medium));
+            } else {
+                list.push(one);
+                must(this.calls.done(this.unit));
+            }
         }
     }
 

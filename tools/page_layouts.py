@@ -14,7 +14,7 @@ FILE = TOP / "page/layouts.ts"
 # `name|flag` is null where the flag is 0.
 STRUCTS = """
 output Output etcs_unit_output: event limit mode level brake indications
-request Request etcs_unit_request_info: sector sectors isWrite=kind
+request Request etcs_unit_request_info: sector sectors isWrite=kind isRead=kind
 state State etcs_unit_state_info: last requests done held hasFailed? pending moment front uncertainty
 facts Facts etcs_image: sectors slots whole newest
 slot Slot etcs_slot: number faultAt state isSound? hasFault? faultRecord
@@ -94,8 +94,8 @@ def member(struct, text):
     kinds = dict(struct._fields_)
     of_c = next(one for suffix in SUFFIXES if (one := f"{snake}{suffix}") in kinds)
     kind, value = read(kinds[of_c], f"at + {getattr(struct, of_c).offset}")
-    if name == "isWrite":
-        kind, value = "boolean", f"{value} === {_header.RequestKind.WRITE}"
+    if name in ("isWrite", "isRead"):
+        kind, value = "boolean", f"{value} === {_header.RequestKind[name[2:].upper()]}"
     elif text.endswith("?"):
         kind, value = ("boolean[]", f"{value}.map(one => one !== 0)") if "[]" in kind else ("boolean", f"{value} !== 0")
     if flag:

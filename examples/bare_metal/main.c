@@ -20,7 +20,7 @@ enum { CYCLE_MS = 100, LATE_MS = 50, WATCHDOG_MS = 200, SLOTS = 64, SECTORS = 1 
 
 /* What the unit may take: groups of at most 16 packets, 32 restrictions, 100 gradients, 100 static speeds at once. Whatever
  * the slots, it holds 16 sectors. */
-static _Alignas(16) uint8_t memory[ETCS_MEMORY_BYTES(0, 16, 32, 100, 100)];
+static _Alignas(16) uint8_t memory[ETCS_MEMORY_BYTES(16, 32, 100, 100)];
 static etcs_executive executive;
 
 /* The medium: memory that keeps what it has where power is lost, and whose reads can't fail. Equipment has a driver of a

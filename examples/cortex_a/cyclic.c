@@ -14,12 +14,13 @@
 #include <inttypes.h>
 #include <pthread.h>
 #include <stdio.h>
+#include <stdlib.h>
 #include <sys/mman.h>
 #include <time.h>
 
 enum { SLOTS = 64, CYCLE_MS = 100, LATE_MS = 50 };
 
-static uint8_t memory[ETCS_MEMORY_BYTES(0, 16, 32, 100, 100)];
+static uint8_t memory[ETCS_MEMORY_BYTES(16, 32, 100, 100)];
 static etcs_executive executive;
 static uint64_t most_cycles = 20, cycle_ms = CYCLE_MS;
 

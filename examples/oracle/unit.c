@@ -98,8 +98,10 @@ static uint32_t flush(void) {
     etcs_unit_request_info request;
     uint32_t count, status;
     while ((status = etcs_unit_request(&unit, &request, bytes, sizeof bytes)) == ETCS_UNIT_OK) {
-        carry_out(&request); /* (a unit over a copy never reads) */
-        if ((status = etcs_unit_done(&unit)) != ETCS_UNIT_OK)
+        carry_out(&request);
+        status = request.kind != ETCS_REQUEST_READ ? etcs_unit_done(&unit)
+            : etcs_unit_provide(&unit, request.sector, medium + ETCS_UNIT_SECTOR * request.sector, ETCS_UNIT_SECTOR);
+        if (status != ETCS_UNIT_OK)
             break;
     }
     return status == ETCS_UNIT_NO_SUCH_REQUEST ? etcs_unit_release(&unit, outputs, ETCS_UNIT_OUTPUTS, &count) : status;

@@ -8,7 +8,7 @@
 `$GAKNIFUR_ETCS_UNIT` names the library. If it is not set, the library that is installed with this package is used, or else
 the system's loader looks for `libetcs_unit.so.N`, where N is the number of the interface (`ABI`). A unit opens no file: its
 journal is on a `Medium`, which is a file (`FileMedium`), sectors in memory (`MemoryMedium`) or a class of your own. A `Unit`
-holds a copy of its medium. A `SectorUnit` holds 16 sectors, whatever the medium's size, and reads the sectors that it needs.
+holds 16 sectors, whatever the medium's size, and reads the sectors that it needs.
 
 `journal(path)` iterates over the records of a file; `records`, `facts` and `slots` read bytes. The module `lives` replays
 the power cycles (lives) of a journal.
@@ -20,7 +20,6 @@ import ctypes
 import errno
 import functools
 import os
-from abc import ABC, abstractmethod
 from collections.abc import Callable, Iterator
 from contextlib import contextmanager
 from dataclasses import dataclass
@@ -35,10 +34,10 @@ from .units._header import (ABI, BUILD_INFO_BYTES, OUTPUTS, REQUEST_BYTES, SECTO
                             Action, Adaptation, Brake, BrakeCause, Cold, Datum, Direction, DroppedVariable, Indication, Kind, Level,
                             LimitCause, Mode, Proof, RequestKind, SlotState, Status, UnusedReason)
 
-__all__ = ["ABI", "OUTPUTS", "REQUEST_BYTES", "SECTOR", "VERSION_BYTES", "Acknowledgement", "Action", "AnyUnit", "Brake",
+__all__ = ["ABI", "OUTPUTS", "REQUEST_BYTES", "SECTOR", "VERSION_BYTES", "Acknowledgement", "Action", "Brake",
            "BrakeCause", "Cold", "Datum", "Facts", "FileMedium", "Indication", "Kept", "Kind", "Level", "LimitCause", "Medium",
-           "MemoryMedium", "Mode", "Output", "OverrideLeft", "Proof", "Record", "Refused", "SectorMedium", "SectorUnit", "Slot",
-           "SlotState", "State", "Status", "Target", "TrainData", "Unit", "UnitDriver", "UnitWhy", "Waiting", "Writable", "build_info",
+           "MemoryMedium", "Mode", "Output", "OverrideLeft", "Proof", "Record", "Refused", "Slot", "SlotState",
+           "State", "Status", "Target", "TrainData", "Unit", "UnitDriver", "UnitWhy", "Waiting", "Writable", "build_info",
            "build_proof", "decode", "facts", "first_request", "format_medium", "journal", "library", "records", "slots",
            "version"]
 
@@ -230,14 +229,7 @@ class Writable(Protocol):
 
 
 class Medium(Writable, Protocol):
-    """The medium of a unit that holds a copy of it."""
-
-    def read(self) -> bytes:
-        """All of its bytes."""
-
-
-class SectorMedium(Writable, Protocol):
-    """The medium of a unit that reads single sectors."""
+    """The medium of a unit."""
 
     def sectors(self) -> int:
         """The number of whole sectors. It is called before each power-up; from then on a read returns what the medium holds."""
@@ -323,13 +315,8 @@ class FileMedium:
             os.close(self.descriptor)
         self.descriptor = -1
 
-    def read(self) -> bytes:
-        """All of its bytes, as they are on the medium."""
-        self._settle()
-        return self._read(self._size(), 0)
-
     def sectors(self) -> int:
-        """The number of whole sectors on the medium."""
+        """The number of whole sectors. The file is settled: what is read from then on is what the medium holds."""
         self._settle()
         return self._size() // SECTOR
 
@@ -614,11 +601,11 @@ def slots(image: bytes) -> Iterator[Slot]:
                    (read.fault_record, read.fault_at) if read.has_fault else None)
 
 
-class AnyUnit(ABC):
-    """The inputs and outputs of a unit, however much of its medium it holds. It is open inside a `with` block, and takes one
-    call at a time, from one thread."""
+class Unit:
+    """A unit. It holds 16 sectors, whatever the size of its medium, and reads the sectors that it needs: in a power-up the gate and
+    the head of each slot, in a flush one gate. It is open inside a `with` block, and takes one call at a time, from one thread."""
 
-    def __init__(self, medium: Writable, cold: Cold) -> None:
+    def __init__(self, medium: Medium, cold: Cold = Cold.UNKNOWN) -> None:
         self._handle = _header.etcs_unit()
         self.medium, self.cold = medium, cold
 
@@ -636,13 +623,9 @@ class AnyUnit(ABC):
                  trace: TracebackType | None) -> None:
         self.close()
 
-    @abstractmethod
-    def _power_up(self) -> None:
-        """Powers up on what the medium holds, or begins to."""
-
     def open(self) -> None:
         """Powers up on what the medium holds, and carries out the requests of the power-up."""
-        self._power_up()
+        self._call("begin", _number(self.medium.sectors(), 64), self.cold, ABI)
         try:
             self._release()
         except BaseException:
@@ -715,10 +698,17 @@ class AnyUnit(ABC):
         if status != Status.NO_SUCH_REQUEST:
             raise Refused(status)
 
+    def provide(self, sector: int, data: bytes) -> None:
+        """Provides the 512 bytes of a sector, exactly as the medium holds them, before the unit asks for it."""
+        self._call("provide", _number(sector, 64), data, len(data))
+
     def _serve(self, request: _header.etcs_unit_request_info, buffer: ctypes.Array[ctypes.c_char]) -> None:
         """Carries out a request."""
-        _carry_out(self.medium, request, buffer)
-        self._call("done")
+        if request.kind == RequestKind.READ:
+            self.provide(request.sector, self.medium.read_sector(request.sector))
+        else:
+            _carry_out(self.medium, request, buffer)
+            self._call("done")
 
     def state(self) -> State:
         """The state of the unit."""
@@ -738,37 +728,3 @@ class AnyUnit(ABC):
         info = _header.etcs_unit_driver_info()
         self._call("driver", ctypes.byref(info))
         return _unit_driver(info)
-
-
-class Unit(AnyUnit):
-    """A unit that holds a copy of its medium."""
-
-    def __init__(self, medium: Medium, cold: Cold = Cold.UNKNOWN) -> None:
-        super().__init__(medium, cold)
-        self._read = medium.read
-
-    def _power_up(self) -> None:
-        image = self._read()
-        self._call("open", image, len(image), self.cold, ABI)
-
-
-class SectorUnit(AnyUnit):
-    """A unit that holds 16 sectors, whatever the size of its medium, and reads the sectors that it needs: in a power-up the
-    gate and the head of each slot, in a flush one gate."""
-
-    def __init__(self, medium: SectorMedium, cold: Cold = Cold.UNKNOWN) -> None:
-        super().__init__(medium, cold)
-        self._sectors, self._read_sector = medium.sectors, medium.read_sector
-
-    def provide(self, sector: int, data: bytes) -> None:
-        """Provides the 512 bytes of a sector, exactly as the medium holds them, before the unit asks for it."""
-        self._call("provide", _number(sector, 64), data, len(data))
-
-    def _power_up(self) -> None:
-        self._call("begin", _number(self._sectors(), 64), self.cold, ABI)
-
-    def _serve(self, request: _header.etcs_unit_request_info, buffer: ctypes.Array[ctypes.c_char]) -> None:
-        if request.kind == RequestKind.READ:
-            self.provide(request.sector, self._read_sector(request.sector))
-        else:
-            super()._serve(request, buffer)

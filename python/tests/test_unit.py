@@ -16,8 +16,8 @@ from unittest import mock
 import gaknifur
 from gaknifur import lives, unit as units
 from gaknifur.lives import BrakeCause, Datum, KeptField, LimitCause, RecordField, TripCause, Verdict
-from gaknifur.unit import (Acknowledgement, Action, AnyUnit, Brake, Cold, FileMedium, Indication, Kept, Kind, Level, MemoryMedium, Mode,
-                           Output, Record, Refused, SectorUnit, SlotState, Status, TrainData, Unit, UnitDriver, UnitWhy, Waiting)
+from gaknifur.unit import (Acknowledgement, Action, Brake, Cold, FileMedium, Indication, Kept, Kind, Level, MemoryMedium, Mode,
+                           Output, Record, Refused, SlotState, Status, TrainData, Unit, UnitDriver, UnitWhy, Waiting)
 from gaknifur.units._header import Adaptation, Direction, DroppedVariable, Fault, Proof, RequestKind, Source, StatusKind, UnusedReason
 
 INCLUDE = Path(__file__).resolve().parents[2] / "include"
@@ -106,7 +106,7 @@ class OverTheLibrary(unittest.TestCase):
 
 @unittest.skipUnless(os.environ.get("GAKNIFUR_ETCS_UNIT"), "GAKNIFUR_ETCS_UNIT names no library")
 class BySectors(OverTheLibrary):
-    """Units that hold no copy of their medium."""
+    """What a unit reads of its medium."""
 
     def closed(self, *calls: Callable[[], object]) -> None:
         """Each of these is refused, since it isn't open."""
@@ -114,41 +114,21 @@ class BySectors(OverTheLibrary):
             with self.refused(Status.NOT_OPEN):
                 call()
 
-    def test_a_life_next_to_a_copy(self) -> None:
-        """The same outputs, and the same bytes, in each of some lives on a ring that is written over."""
-        media = MemoryMedium.formatted(3), MemoryMedium.formatted(3)
-        for cold in (Cold.UNKNOWN, Cold.NOT_MOVED, Cold.MOVED):
-            units_of_both: list[AnyUnit] = [Unit(media[0], cold), SectorUnit(media[1], cold)]
-            outputs: list[list[object]] = []
-            for unit in units_of_both:
-                with unit:
-                    unit.identity("IC 704")
-                    unit.train_data(TRAIN)
-                    unit.action(Action.CHOOSE_LEVEL_1)
-                    outputs.append([unit.flush()])
-                    for moment in range(4):
-                        unit.clock(moment)
-                        unit.odometer(-10, 300)
-                        outputs[-1].append(unit.flush())
-                    outputs[-1] += [unit.state(), unit.why(), unit.driver(), unit.flush()]
-            self.assertEqual(outputs[0], outputs[1])
-            self.assertEqual(media[0].data, media[1].data)
-
     def test_which_sectors_are_read(self) -> None:
         """In a power-up the first sector, each gate, the head of each slot whose gate is open, the newest block, and the next gate; in a flush
         that gate, where it isn't one of the 16 sectors that are held."""
         medium = Noted(bytes(MemoryMedium.formatted(4).data))
-        with SectorUnit(medium) as unit:
+        with Unit(medium) as unit:
             self.assertEqual(medium.taken(), [0, *gates(range(4))])
             for moment in range(2):
                 unit.clock(moment)
                 unit.flush()
             self.assertEqual(medium.taken(), [])
         # Slots 1 to 3 hold blocks 1 to 3. The newest is in slot 3, whose gate and head are known by then.
-        with SectorUnit(medium):
+        with Unit(medium):
             self.assertEqual(medium.taken(), [0, 1, 7, 8, 13, 14, 19, 20, 21, 22, 23, 24])
         medium = Noted(bytes(MemoryMedium.formatted(40).data))
-        with SectorUnit(medium) as unit:
+        with Unit(medium) as unit:
             self.assertEqual(medium.taken(), [0, *gates(range(40)), *gates(range(1, 2))])
             for slot in (2, 3, 4):
                 unit.clock(slot)
@@ -161,15 +141,9 @@ class BySectors(OverTheLibrary):
             self.assertEqual((len(unit.flush()), medium.taken()), (1, [gate]))
         self.assertEqual([one.event for one in units.records(bytes(medium.data))], [0, 1, 2, 3, 4])
 
-    def test_images_that_do_not_open(self) -> None:
-        for data, status in ((b"", Status.OPEN_NOT_FORMATTED), (bytes(12_800), Status.OPEN_NOT_FORMATTED),
-                             (MemoryMedium.formatted(4).data[:-512], Status.OPEN_DAMAGED)):
-            with self.refused(status):
-                SectorUnit(MemoryMedium(bytes(data))).open()
-
     def test_a_medium_that_cannot_be_read(self) -> None:
         medium = Noted(bytes(MemoryMedium.formatted(40).data))
-        unit = SectorUnit(medium)
+        unit = Unit(medium)
         for sector in (0, 7):
             medium.fails_at = sector
             self.assertRaisesRegex(OSError, "no power", unit.open)
@@ -189,7 +163,7 @@ class BySectors(OverTheLibrary):
                 unit.flush()
 
     def test_the_calls_of_a_unit(self) -> None:
-        unit = SectorUnit(MemoryMedium.formatted(2))
+        unit = Unit(MemoryMedium.formatted(2))
         self.closed(lambda: unit.provide(0, bytes(SECTOR)))
         with unit:
             for sector, size in ((13, SECTOR), (0, SECTOR - 1), (0, 0), (-1, SECTOR), (1 << 64, SECTOR)):
@@ -200,11 +174,11 @@ class BySectors(OverTheLibrary):
                 unit.open()
 
     def test_a_file(self) -> None:
-        """The file is settled before its sectors are read, and then holds what a copy would leave."""
+        """The file is settled before its sectors are read, and then holds what a medium in memory does."""
         with tempfile.TemporaryDirectory() as folder:
             path, memory = Path(folder) / "image", MemoryMedium.formatted(4)
             with FileMedium.formatted(path, 4) as medium:
-                for place in (SectorUnit(medium), Unit(memory)):
+                for place in (Unit(medium), Unit(memory)):
                     with place as unit:
                         unit.clock(1)
                         unit.flush()
@@ -217,7 +191,7 @@ class BySectors(OverTheLibrary):
                     calls.append("read")
                     return memory.read_sector(sector)
 
-                with mock.patch.object(medium, "_settle", lambda: calls.append("settled")), mock.patch.object(medium, "read_sector", read), SectorUnit(medium):
+                with mock.patch.object(medium, "_settle", lambda: calls.append("settled")), mock.patch.object(medium, "read_sector", read), Unit(medium):
                     self.assertEqual((calls[:2], calls.count("settled")), (["settled", "read"], 1))
 
 
@@ -364,7 +338,7 @@ class Calls(OverTheLibrary):
             with FileMedium.formatted(path, 2) as medium:
                 self.assertEqual(calls[-2:], ["fsync", "fsync of a folder"])
                 calls.clear()
-                self.assertEqual(len(medium.read()), 6656)
+                self.assertEqual((medium.sectors(), len(medium.read_sector(0))), (13, 512))
                 self.assertEqual(calls, ["fsync", "posix_fadvise", "pread"])
 
     def test_a_journal(self) -> None:

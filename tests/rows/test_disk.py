@@ -3,7 +3,7 @@
 
 A row's first word names what it is for: `memory` is a disk in memory that can lose power, `liar` a disk that lies,
 `file` a disk over an honest file in memory, `raw` such a file itself, and `window` a disk that hands out its requests,
-and holds only some sectors of its medium, or all of them.
+and holds only some sectors of its medium.
 
     memory new 3 9 8          a disk of so many sectors, with room for so many calls and so many written sectors
     memory fail 2             of the calls from here on the one of this number, counted from 0, fails once
@@ -20,7 +20,6 @@ and holds only some sectors of its medium, or all of them.
     raw open 1                whether a sector is open
     raw sync
     window new 4              a disk on a medium of so many sectors, of which none is known
-    window copy 4 7           a copy of a medium of so many sectors of this byte
     window wanted             the sector that is wanted; no where none is
     window provide 2 7        hands in a sector of this byte
     window seek 2             whether a sector is known
@@ -61,10 +60,10 @@ OWN = {
     "raw": {"new": (0, 2), "write": (1, 3), "open": (2, 1), "sync": (3, 0)},
     "window": {
         "new": (8, 1), "wanted": (9, 0), "provide": (10, 2), "seek": (11, 1), "requests": (12, 0), "request": (13, 1),
-        "first": (14, 1), "byte": (15, 2), "empty": (16, 0), "copy": (17, 2),
+        "first": (14, 1), "byte": (15, 2), "empty": (16, 0),
     },
 }
-BYTES = {(word, disk) for disk in DISKS for word in ("write", "put", "provide", "copy")}
+BYTES = {(word, disk) for disk in DISKS for word in ("write", "put", "provide")}
 ANSWERS = {1: "done", 2: "fault", 3: "yes", 4: "no", 5: "mixed", 6: "no memory"}
 
 

@@ -4,7 +4,7 @@
 #include "platform.h"
 
 static const volatile uint8_t *script = (const volatile uint8_t *)UINT64_C(0x48000000);
-static _Alignas(16) uint8_t buffer[2 * ETCS_MEMORY_BYTES(64, 264, 400, 9000, 9000)];
+static _Alignas(16) uint8_t buffer[2 * ETCS_MEMORY_BYTES(264, 400, 9000, 9000)];
 
 int next_char(void) {
     const int byte = *script;

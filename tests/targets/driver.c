@@ -37,6 +37,7 @@ static void add_number(uint64_t number, size_t size);
 static uint8_t media[2][SECTORS * ETCS_UNIT_SECTOR];
 static size_t lengths[2];
 static etcs_unit units[2];
+/* Whether a unit is opened by etcs_unit_open, or the driver answers its reads. */
 static unsigned by_sectors;
 static etcs_journal journal;
 static uint64_t reads_at_most;

@@ -23,7 +23,7 @@ void put_char(char of) {
 
 int main(void) {
 #ifdef OWN_MEMORY
-    static uint8_t buffer[2 * ETCS_MEMORY_BYTES(64, 264, 400, 9000, 9000) + MORE];
+    static uint8_t buffer[2 * ETCS_MEMORY_BYTES(264, 400, 9000, 9000) + MORE];
     if (etcs_memory_use(buffer, sizeof buffer) != ETCS_UNIT_OK)
         return 1;
 #endif

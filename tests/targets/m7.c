@@ -4,7 +4,7 @@
 
 static const volatile uint8_t *script = (const volatile uint8_t *)UINT32_C(0x60D00000);
 static volatile uint32_t *const serial = (volatile uint32_t *)UINT32_C(0x40004000); /* data, state, control, -, divider */
-static _Alignas(16) uint8_t buffer[2 * ETCS_MEMORY_BYTES(64, 264, 400, 9000, 9000)] __attribute__((section(".large")));
+static _Alignas(16) uint8_t buffer[2 * ETCS_MEMORY_BYTES(264, 400, 9000, 9000)] __attribute__((section(".large")));
 
 int next_char(void) {
     const int byte = *script;

@@ -1,8 +1,7 @@
 /* Lives over the library without malloc, whose buffer has just the bytes that etcs_memory.h says that a unit needs at most: no request of its
  * is refused, and after each close nothing is used.
  *
- *     bounded SLOTS PACKETS RESTRICTIONS GRADIENTS SPEEDS [sectors]    reads lives from standard input: `open COLD`, an input (inputs.h), `flush`,
- *                                                                      `close`; opens by sectors, or over a copy
+ *     bounded SLOTS PACKETS RESTRICTIONS GRADIENTS SPEEDS    reads lives from standard input: `open COLD`, an input (inputs.h), `flush`, `close`
  *
  * It prints how many bytes the buffer has, how many of them were used at most, how many lives there were, how many outputs, and how many of those
  * command no brake. Where a call answers something else than OK, it says so with the line, and goes on. */
@@ -12,12 +11,11 @@
 
 int main(int count, char **words) {
     uint64_t given[5];
-    const int by_sectors = count == 7 && strcmp(words[6], "sectors") == 0;
-    if (count != 6 + by_sectors)
+    if (count != 6)
         return 2;
     for (int i = 0; i < 5; i++)
         given[i] = strtoull(words[1 + i], NULL, 10);
-    const uint64_t size = ETCS_MEMORY_BYTES(by_sectors ? 0 : given[0], given[1], given[2], given[3], given[4]);
+    const uint64_t size = ETCS_MEMORY_BYTES(given[1], given[2], given[3], given[4]);
     uint8_t *const buffer = (uint8_t *)malloc(size);
     medium on = formatted((uint32_t)given[0]);
     static char line[1024];
@@ -33,8 +31,7 @@ int main(int count, char **words) {
         uint32_t status;
         number++;
         if (strncmp(line, "open ", 5) == 0) {
-            const uint32_t cold = (uint32_t)strtoul(line + 5, NULL, 10);
-            status = by_sectors ? powered_up_by_sectors(&on, &unit, cold) : powered_up(&on, &unit, cold);
+            status = powered_up(&on, &unit, (uint32_t)strtoul(line + 5, NULL, 10));
             lives++;
         } else if (strcmp(line, "close\n") == 0) {
             status = etcs_unit_close(&unit);

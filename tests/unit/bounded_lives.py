@@ -3,9 +3,9 @@
 climb over tracks of groups with restrictions, gradients, static speeds, and packets that only take room while their group is read.
 
     tests/unit/bounded_lives.py BOUNDED [LIVES [SEED]]    BOUNDED is bounded.c with the library without malloc; 100 lives, seed 67
-    tests/unit/bounded_lives.py BOUNDED hours HOURS [sectors]  so many hours at 100 km/h in cycles of 100 ms, a group with an authority each km
+    tests/unit/bounded_lives.py BOUNDED hours HOURS            so many hours at 100 km/h in cycles of 100 ms, a group with an authority each km
 
-A life is lived three times, one after another, on the same buffer, by a unit over a copy or by sectors. The latter has no room for slots. The exit status is 1 where a request is refused, or where no life used so much
+A life is lived three times, one after another, on the same buffer. The exit status is 1 where a request is refused, or where no life used so much
 of its bound that the bound would be seen to be too small by half.
 """
 import contextlib
@@ -114,11 +114,11 @@ def hours(count):
     yield "close"
 
 
-def drive(program, count, *kind):
+def drive(program, count):
     """Whether a train so long on its way is answered, and mostly without a brake, within the memory of its track."""
     count, compared = int(count), Compared()
     with tempfile.TemporaryFile("w+") as output:
-        ran = subprocess.Popen([program, "64", "5", "10", "60", "60", *kind], stdin=subprocess.PIPE, stdout=output, stderr=subprocess.STDOUT, text=True)
+        ran = subprocess.Popen([program, "64", "5", "10", "60", "60"], stdin=subprocess.PIPE, stdout=output, stderr=subprocess.STDOUT, text=True)
         with contextlib.suppress(BrokenPipeError), ran.stdin as lines:
             lines.writelines(f"{line}\n" for line in hours(count))
         status = ran.wait(timeout=60)
@@ -128,7 +128,7 @@ def drive(program, count, *kind):
     if compared.unless(status == 0 and found, f"status {status}\n{text[-2000:]}"):
         size, used, outputs, brakeless = map(int, found.groups())
         compared.unless(outputs >= 72_000 * count and brakeless >= outputs - 100, f"{outputs} outputs, {brakeless} of them without a brake")
-        return compared.end(f"memory{' by sectors' if kind else ''}: {count} h of driving, {outputs:,} outputs, {used:,} of {size:,} bytes used at most")
+        return compared.end(f"memory: {count} h of driving, {outputs:,} outputs, {used:,} of {size:,} bytes used at most")
     return compared.end("memory: driving")
 
 
@@ -137,25 +137,22 @@ def main(words):
     if given[:1] == ["hours"]:
         return drive(program, *given[1:])
     lives, seed = [int(word) for word in given] + [100, 67][len(given):]
-    r, compared, best, kept, greatest, by_sectors = random.Random(seed), Compared(), 0.0, [], 0, 0
+    r, compared, best, kept, greatest = random.Random(seed), Compared(), 0.0, [], 0
     for _ in range(lives):
         groups = changed(r, kept) if kept and r.randrange(8) else [group(r) for _ in range(r.randrange(1, MOST_GROUPS))]
-        track, slots, kind = Track(groups), r.choice((2, 4, 64)), r.choice(((), ("sectors",)))
-        by_sectors += len(kind)
-        ran = subprocess.run([program, *map(str, (slots, *(track.sum[of] for of in ("packets", "restrictions", "gradients", "speeds")))), *kind],
+        track, slots = Track(groups), r.choice((2, 4, 64))
+        ran = subprocess.run([program, *map(str, (slots, *(track.sum[of] for of in ("packets", "restrictions", "gradients", "speeds"))))],
                              input="\n".join(track.life() * 3) + "\n", capture_output=True, text=True, timeout=60)
         found = re.search(r"^(\d+) bytes, (\d+) used at most, 3 lives,", ran.stdout, re.M)
-        if not compared.unless(ran.returncode == 0 and found, f"{groups} on {slots} slots {kind}: status {ran.returncode}\n{ran.stdout[-1500:]}{ran.stderr[-500:]}"):
+        if not compared.unless(ran.returncode == 0 and found, f"{groups} on {slots} slots: status {ran.returncode}\n{ran.stdout[-1500:]}{ran.stderr[-500:]}"):
             continue
         size, used = map(int, found.groups())
-        copied = 0 if kind else 3072 * slots
-        filled = (used - copied) / (size - copied)
+        filled = used / size
         greatest = max(greatest, used)
         if filled >= best:
             best, kept = filled, groups
-    compared.unless(by_sectors >= lives // 4, f"{by_sectors} of the tracks are by sectors")
-    compared.unless(best >= LEAST_FILLED, f"of its bound without the medium no life used more than {best:.3f}")
-    return compared.end(f"memory: {lives} tracks, {by_sectors} of them by sectors, three lives on each; {greatest:,} bytes used at most; of a bound without the medium up to {best:.3f}")
+    compared.unless(best >= LEAST_FILLED, f"of its bound no life used more than {best:.3f}")
+    return compared.end(f"memory: {lives} tracks, three lives on each; {greatest:,} bytes used at most; of a bound up to {best:.3f}")
 
 
 if __name__ == "__main__":

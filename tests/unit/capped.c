@@ -76,7 +76,7 @@ int main(int words_count, char **words) {
         return 2;
     for (int i = 0; i < 4; i++)
         given[i] = strtoull(words[1 + i], NULL, 10);
-    const uint64_t size = ETCS_MEMORY_BYTES(0, given[0], given[1], given[2], given[3]);
+    const uint64_t size = ETCS_MEMORY_BYTES(given[0], given[1], given[2], given[3]);
     uint8_t *const buffer = (uint8_t *)malloc(size);
     on = formatted(SLOTS);
     equipment.medium = &on;

@@ -26,7 +26,7 @@ enum { SLOTS = 16, SECTORS = 1 + 6 * SLOTS, LINE = 512, MOST_CYCLES = 1 << 21, F
 #define MORE 0
 #endif
 
-static _Alignas(16) uint8_t memory[MORE + ETCS_MEMORY_BYTES(0, 264, 400, 2000, 2000)];
+static _Alignas(16) uint8_t memory[MORE + ETCS_MEMORY_BYTES(264, 400, 2000, 2000)];
 static uint8_t medium[SECTORS][ETCS_UNIT_SECTOR];
 static etcs_executive executive;
 static FILE *lives;

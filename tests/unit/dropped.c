@@ -44,7 +44,6 @@ void drops(etcs_unit *unit, etcs_file *file, etcs_unit_output *outputs, uint8_t 
     etcs_telegram_dropped(bytes, 8, 0, &value);
     etcs_telegram_unused(bytes, 8, 0, 0, 0, &packet);
     etcs_file_open(file, "image", unit, ETCS_COLD_UNKNOWN);
-    etcs_file_open_by_sectors(file, "image", unit, ETCS_COLD_UNKNOWN);
     etcs_file_prepare(file, unit);
     etcs_file_carry_out(file, unit);
     etcs_file_flush(file, unit, outputs, count);

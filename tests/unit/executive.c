@@ -23,7 +23,7 @@ static inline uint32_t other_clock(etcs_unit *unit, uint64_t moment_ms) {
 #else
 #define MORE 0
 #endif
-static uint8_t memory[MORE + ETCS_MEMORY_BYTES(0, 16, 32, 100, 100)];
+static uint8_t memory[MORE + ETCS_MEMORY_BYTES(16, 32, 100, 100)];
 #endif
 
 enum { SLOTS = 8, CYCLE_US = 100000, LATE_US = 50000 };

@@ -95,9 +95,6 @@ static int planted_drop(int descriptor, off_t at, off_t len, int advice) {
 static etcs_unit_output outputs[ETCS_UNIT_OUTPUTS];
 static uint32_t count;
 
-/* How a file is opened: over a copy, or by sectors. */
-static uint32_t (*opens_by)(etcs_file *file, const char *path, etcs_unit *unit, uint32_t cold) = etcs_file_open;
-
 static long size_of(const char *path) {
     struct stat facts;
     return stat(path, &facts) == 0 ? (long)facts.st_size : -1;
@@ -161,21 +158,21 @@ static void settles(void) {
     etcs_file file = {0};
     etcs_unit unit = {0};
     forget();
-    is("open", opens_by(&file, "image", &unit, 0), ETCS_FILE_OK);
+    is("open", etcs_file_open(&file, "image", &unit, 0), ETCS_FILE_OK);
     is("a sync, a drop, and reads", strcmp(order, "SDR") == 0, 1);
     is("close", etcs_file_close(&file, &unit), ETCS_FILE_OK);
     forget();
     fails_sync = EIO;
-    is("a sync that fails", opens_by(&file, "image", &unit, 0), ETCS_FILE_CANT_SYNC);
+    is("a sync that fails", etcs_file_open(&file, "image", &unit, 0), ETCS_FILE_CANT_SYNC);
     is("its number", (uint64_t)file.error, EIO);
     is("nothing is read", strcmp(order, "S") == 0, 1);
     fails_sync = EROFS;
-    is("a file that takes no writes", opens_by(&file, "image", &unit, 0), ETCS_FILE_OK);
+    is("a file that takes no writes", etcs_file_open(&file, "image", &unit, 0), ETCS_FILE_OK);
     is("close", etcs_file_close(&file, &unit), ETCS_FILE_OK);
     fails_sync = 0;
     forget();
     fails_drop = ENOSYS;
-    is("a system that drops nothing", opens_by(&file, "image", &unit, 0), ETCS_FILE_CANT_SYNC);
+    is("a system that drops nothing", etcs_file_open(&file, "image", &unit, 0), ETCS_FILE_CANT_SYNC);
     is("its number", (uint64_t)file.error, ENOSYS);
     is("nothing is read", strcmp(order, "SD") == 0, 1);
     fails_drop = 0;
@@ -186,26 +183,26 @@ static void settles(void) {
 static void open_already(void) {
     etcs_file file = {0}, other = {0};
     etcs_unit unit = {0}, second = {0};
-    is("open", opens_by(&file, "image", &unit, 0), ETCS_FILE_OK);
+    is("open", etcs_file_open(&file, "image", &unit, 0), ETCS_FILE_OK);
     const int descriptor = file.descriptor;
-    is("once more", opens_by(&file, "image", &unit, 0), ETCS_FILE_UNIT);
+    is("once more", etcs_file_open(&file, "image", &unit, 0), ETCS_FILE_UNIT);
     is("its status", file.status, ETCS_UNIT_IS_OPEN);
-    is("the file, with another unit", opens_by(&file, "new", &second, 0), ETCS_FILE_UNIT);
+    is("the file, with another unit", etcs_file_open(&file, "new", &second, 0), ETCS_FILE_UNIT);
     is("its status", file.status, ETCS_UNIT_IS_OPEN);
     is("that unit isn't open", second.is_open, 0);
     forget();
-    is("the unit, with another file", opens_by(&other, "new", &unit, 0), ETCS_FILE_UNIT);
+    is("the unit, with another file", etcs_file_open(&other, "new", &unit, 0), ETCS_FILE_UNIT);
     is("its status", other.status, ETCS_UNIT_IS_OPEN);
     is("that file isn't touched", order[0] == 0, 1);
     is("a format of it", etcs_file_format(&file, "new", 4), ETCS_FILE_UNIT);
     is("its status", file.status, ETCS_UNIT_IS_OPEN);
     is("the same descriptor", (uint64_t)file.descriptor, (uint64_t)descriptor);
-    is("the lock is held", opens_by(&other, "image", &second, 0), ETCS_FILE_LOCKED);
-    is("the other file isn't", opens_by(&other, "new", &second, 0), ETCS_FILE_OK);
+    is("the lock is held", etcs_file_open(&other, "image", &second, 0), ETCS_FILE_LOCKED);
+    is("the other file isn't", etcs_file_open(&other, "new", &second, 0), ETCS_FILE_OK);
     is("close the other", etcs_file_close(&other, &second), ETCS_FILE_OK);
     is("the unit goes on", etcs_file_flush(&file, &unit, outputs, &count), ETCS_FILE_OK);
     is("close", etcs_file_close(&file, &unit), ETCS_FILE_OK);
-    is("the lock is given back", opens_by(&file, "image", &unit, 0), ETCS_FILE_OK);
+    is("the lock is given back", etcs_file_open(&file, "image", &unit, 0), ETCS_FILE_OK);
     is("close", etcs_file_close(&file, &unit), ETCS_FILE_OK);
 }
 
@@ -251,7 +248,7 @@ static void zeros(void) {
     is("close a file of zeros", etcs_file_close(&none, &unit), ETCS_FILE_UNIT);
     is("descriptor 0 is open", fcntl(0, F_GETFD) >= 0, 1);
     memset(&none, 0, sizeof none);
-    is("open", opens_by(&file, "image", &unit, 0), ETCS_FILE_OK);
+    is("open", etcs_file_open(&file, "image", &unit, 0), ETCS_FILE_OK);
     forget();
     is("flush to a file of zeros", etcs_file_flush(&none, &unit, outputs, &count) != ETCS_FILE_OK, 1);
     is("its number", (uint64_t)none.error, EBADF);
@@ -268,17 +265,17 @@ static void great(void) {
     const int from = open("image", O_RDONLY), to = open("great", O_RDWR | O_CREAT, 0666);
     is("3 GB", ftruncate(to, (off_t)3 << 30) == 0, 1);
     forget();
-    is("no journal", opens_by(&file, "great", &unit, 0), ETCS_FILE_UNIT);
+    is("no journal", etcs_file_open(&file, "great", &unit, 0), ETCS_FILE_UNIT);
     is("its status", file.status, ETCS_UNIT_OPEN_NOT_FORMATTED);
-    is("no more is read than its first sector, twice", bytes_read <= 2 * sizeof first, 1);
+    is("no more is read than its first sector", bytes_read <= sizeof first, 1);
     is("the first sector of another one", read(from, first, sizeof first) == (ssize_t)sizeof first && write(to, first, sizeof first) == (ssize_t)sizeof first, 1);
     forget();
-    is("a journal of another size", opens_by(&file, "great", &unit, 0), ETCS_FILE_UNIT);
+    is("a journal of another size", etcs_file_open(&file, "great", &unit, 0), ETCS_FILE_UNIT);
     is("its status", file.status, ETCS_UNIT_OPEN_DAMAGED);
-    is("no more is read than its first sector, twice", bytes_read <= 2 * sizeof first, 1);
-    is("cold 3 comes first", opens_by(&file, "great", &unit, 3), ETCS_FILE_UNIT);
+    is("no more is read than its first sector", bytes_read <= sizeof first, 1);
+    is("cold 3 comes first", etcs_file_open(&file, "great", &unit, 3), ETCS_FILE_UNIT);
     is("its status", file.status, ETCS_UNIT_OUT_OF_RANGE);
-    is("511 bytes", ftruncate(to, 511) == 0 && opens_by(&file, "great", &unit, 0) == ETCS_FILE_UNIT, 1);
+    is("511 bytes", ftruncate(to, 511) == 0 && etcs_file_open(&file, "great", &unit, 0) == ETCS_FILE_UNIT, 1);
     is("its status", file.status, ETCS_UNIT_OPEN_NOT_FORMATTED);
     close(from);
     close(to);
@@ -288,15 +285,15 @@ static void great(void) {
 static void opens(void) {
     etcs_file file = {0}, other = {0};
     etcs_unit unit = {0}, second = {0};
-    is("no file", opens_by(&file, "none", &unit, 0), ETCS_FILE_CANT_OPEN);
+    is("no file", etcs_file_open(&file, "none", &unit, 0), ETCS_FILE_CANT_OPEN);
     is("its number", (uint64_t)file.error, ENOENT);
-    is("a folder", opens_by(&file, ".", &unit, 0), ETCS_FILE_CANT_OPEN);
-    is("a device that is empty", opens_by(&file, "/dev/null", &unit, 0), ETCS_FILE_UNIT);
+    is("a folder", etcs_file_open(&file, ".", &unit, 0), ETCS_FILE_CANT_OPEN);
+    is("a device that is empty", etcs_file_open(&file, "/dev/null", &unit, 0), ETCS_FILE_UNIT);
     is("its status", file.status, ETCS_UNIT_OPEN_NOT_FORMATTED);
-    is("cold 3", opens_by(&file, "image", &unit, 3), ETCS_FILE_UNIT);
+    is("cold 3", etcs_file_open(&file, "image", &unit, 3), ETCS_FILE_UNIT);
     is("its status", file.status, ETCS_UNIT_OUT_OF_RANGE);
-    is("the lock is given back", opens_by(&file, "image", &unit, 0), ETCS_FILE_OK);
-    is("a second unit on it", opens_by(&other, "image", &second, 0), ETCS_FILE_LOCKED);
+    is("the lock is given back", etcs_file_open(&file, "image", &unit, 0), ETCS_FILE_OK);
+    is("a second unit on it", etcs_file_open(&other, "image", &second, 0), ETCS_FILE_LOCKED);
     is("it isn't open", second.is_open, 0);
     is("a format of it", etcs_file_format(&other, "image", 8), ETCS_FILE_LOCKED);
     is("it is as it was", (uint64_t)size_of("image"), 12800);
@@ -315,7 +312,7 @@ static void lives(void) {
     etcs_file file = {0};
     etcs_unit unit = {0};
     does_parts = 1;
-    is("open", opens_by(&file, "image", &unit, ETCS_COLD_NOT_MOVED), ETCS_FILE_OK);
+    is("open", etcs_file_open(&file, "image", &unit, ETCS_COLD_NOT_MOVED), ETCS_FILE_OK);
     is("an input before the power-up is done", etcs_unit_clock(&unit, 1), ETCS_UNIT_OK);
     is("flush", etcs_file_flush(&file, &unit, outputs, &count), ETCS_FILE_OK);
     is("the power-up, and the event", count, 1);
@@ -332,7 +329,7 @@ static void lives(void) {
     is("nothing", count, 0);
     is("close", etcs_file_close(&file, &unit), ETCS_FILE_OK);
     does_parts = 0;
-    is("open", opens_by(&file, "image", &unit, 0), ETCS_FILE_OK);
+    is("open", etcs_file_open(&file, "image", &unit, 0), ETCS_FILE_OK);
     is("flush", etcs_file_flush(&file, &unit, outputs, &count), ETCS_FILE_OK);
     is("an input", etcs_unit_clock(&unit, 1), ETCS_UNIT_OK);
     is("flush", etcs_file_flush(&file, &unit, outputs, &count), ETCS_FILE_OK);
@@ -345,7 +342,7 @@ static void fails(int at_sync) {
     etcs_file file = {0};
     etcs_unit unit = {0};
     etcs_unit_state_info state;
-    is("open", opens_by(&file, "image", &unit, 0), ETCS_FILE_OK);
+    is("open", etcs_file_open(&file, "image", &unit, 0), ETCS_FILE_OK);
     is("flush", etcs_file_flush(&file, &unit, outputs, &count), ETCS_FILE_OK);
     is("an input", etcs_unit_clock(&unit, 1), ETCS_UNIT_OK);
     fails_sync = at_sync ? EIO : 0;
@@ -374,10 +371,10 @@ static uint8_t *bytes_in(const char *path, size_t *len) {
 }
 
 /* Some flushes of a life; the first and the last event, and the file after it, for the caller to free. */
-static uint8_t *flushes(uint32_t (*opens_it)(etcs_file *, const char *, etcs_unit *, uint32_t), const char *path, uint64_t events[2], size_t *len) {
+static uint8_t *flushes(const char *path, uint64_t events[2], size_t *len) {
     etcs_file file = {0};
     etcs_unit unit = {0};
-    is("open", opens_it(&file, path, &unit, ETCS_COLD_UNKNOWN), ETCS_FILE_OK);
+    is("open", etcs_file_open(&file, path, &unit, ETCS_COLD_UNKNOWN), ETCS_FILE_OK);
     for (uint64_t moment = 1; moment <= 12; moment++) {
         is("an input", etcs_unit_clock(&unit, moment), ETCS_UNIT_OK);
         is("flush", etcs_file_flush(&file, &unit, outputs, &count), ETCS_FILE_OK);
@@ -388,36 +385,36 @@ static uint8_t *flushes(uint32_t (*opens_it)(etcs_file *, const char *, etcs_uni
     return bytes_in(path, len);
 }
 
-/* The same file over sectors that are read as they are wanted, and over a copy. */
-static void by_sectors(void) {
+/* Sectors are read as they are wanted, also in parts; a read that fails opens nothing, and releases nothing. */
+static void reads(void) {
     etcs_file file = {0};
     etcs_unit unit = {0};
     etcs_unit_state_info state;
-    uint64_t copied[2], read_by[2];
+    uint64_t at_once[2], in_parts[2];
     size_t size, len;
-    is("a file", etcs_file_format(&file, "copied", 64), ETCS_FILE_OK);
-    is("the same", etcs_file_format(&file, "sectors", 64), ETCS_FILE_OK);
+    is("a file", etcs_file_format(&file, "whole", 64), ETCS_FILE_OK);
+    is("the same", etcs_file_format(&file, "parts", 64), ETCS_FILE_OK);
     for (int life = 0; life < 7; life++) {
-        uint8_t *const wanted = flushes(etcs_file_open, "copied", copied, &size);
-        does_parts = life == 3;
+        uint8_t *const wanted = flushes("whole", at_once, &size);
+        does_parts = 1;
         forget();
-        uint8_t *const found = flushes(etcs_file_open_by_sectors, "sectors", read_by, &len);
+        uint8_t *const found = flushes("parts", in_parts, &len);
         does_parts = 0;
         is("it is settled before it is read", strncmp(order, "SDR", 3) == 0, 1);
         is("it is read in part", bytes_read < size - 12 * ETCS_UNIT_SECTOR, 1);
-        is("the same events", (uint64_t)memcmp(copied, read_by, sizeof copied), 0);
+        is("the same events", (uint64_t)memcmp(at_once, in_parts, sizeof at_once), 0);
         is("the same file", len == size && memcmp(found, wanted, size) == 0, 1);
         free(wanted);
         free(found);
     }
     for (int read_first = 0; read_first < 66; read_first++) {
         reads_left = read_first;
-        is("a read that fails", etcs_file_open_by_sectors(&file, "sectors", &unit, 0), ETCS_FILE_CANT_READ);
+        is("a read that fails", etcs_file_open(&file, "parts", &unit, 0), ETCS_FILE_CANT_READ);
         is("its number", (uint64_t)file.error, EIO);
         is("no unit is open", unit.is_open, 0);
     }
     reads_left = -1;
-    is("the lock is given back", etcs_file_open_by_sectors(&file, "sectors", &unit, 0), ETCS_FILE_OK);
+    is("the lock is given back", etcs_file_open(&file, "parts", &unit, 0), ETCS_FILE_OK);
     is("flush", etcs_file_flush(&file, &unit, outputs, &count), ETCS_FILE_OK);
     reads_left = 0;
     uint32_t answer = ETCS_FILE_OK;
@@ -453,8 +450,6 @@ int main(int words, char **word) {
     formats();
     names();
     with_units();
-    opens_by = etcs_file_open_by_sectors;
-    with_units();
-    by_sectors();
-    return report("files", 1060);
+    reads();
+    return report("files", 900);
 }

@@ -1,8 +1,8 @@
 /* Runs one life on an image, and prints what `etcs run` prints of it: a line for each output that is released.
  *
- *     life [slow-]copy|sectors IMAGE COLD [CUT]    reads inputs from standard input, one a line; a slow medium takes one before each request of a
- *                                           list; with CUT the medium fails after so many requests; by sectors with -1 - CUT it stops
- *                                           while it opens, after so many sectors
+ *     life slow|fast IMAGE COLD [CUT]    reads inputs from standard input, one a line; a slow medium takes one before each request of a list;
+ *                                        with CUT the medium fails after so many requests; with -1 - CUT it stops while it opens, after
+ *                                        so many sectors
  *     life format IMAGE SLOTS
  *
  * The inputs are those of inputs.h; a line may also be `flush`. */
@@ -11,6 +11,7 @@
 
 #include <inttypes.h>
 #include <stdio.h>
+#include <stdlib.h>
 #include <string.h>
 
 enum { DONE = 0, REFUSED = 1, DEVICE = 3, WRONG_WORDS = 2 };
@@ -144,15 +145,14 @@ int main(int count, char **words) {
         return etcs_file_format(&file, words[2], (uint32_t)strtoul(words[3], NULL, 10)) == ETCS_FILE_OK ? DONE : DEVICE;
     if (count != 4 && count != 5)
         return WRONG_WORDS;
-    is_slow = strncmp(words[1], "slow-", 5) == 0;
-    const int by_sectors = strcmp(words[1] + (is_slow ? 5 : 0), "sectors") == 0;
+    is_slow = strcmp(words[1], "slow") == 0;
     const uint32_t cold = (uint32_t)strtoul(words[3], NULL, 10);
     left = count == 5 ? strtol(words[4], NULL, 10) : -1;
     if (count == 5 && left < 0) {
         printf("abandoned before a %s\n", abandoned(&file, words[2], cold, -1 - left));
         return REFUSED;
     }
-    uint32_t answer = by_sectors ? etcs_file_open_by_sectors(&file, words[2], &unit, cold) : etcs_file_open(&file, words[2], &unit, cold);
+    uint32_t answer = etcs_file_open(&file, words[2], &unit, cold);
     if (answer != ETCS_FILE_OK && answer != ETCS_FILE_UNIT) {
         puts("device");
         return DEVICE;

@@ -3,10 +3,10 @@
 
     tests/unit/lives.py LIFE [LIVES [SEED]]    LIFE is life.c with the library; 400 lives, seed 2026; $ETCS names another program than that of the full check
 
-Each life is lived over a copy of the file, and by sectors. All print the same and end with the same status. Their writes and syncs of the file are the
-same, in the same order and with the same bytes, so that power may be lost between any two of them and the file is the same. In every second life the
-medium fails between two requests: the life from C stops there, and has released just what `etcs run` had printed by then. Or it stops while sectors are
-still wanted: then nothing was written. Then both go on from that file. Every second life from C has a slow medium, and takes inputs within a list.
+Each life is lived on a fast medium, and on a slow one, which takes inputs within a list. All print the same and end with the same status. Their writes
+and syncs of the file are the same, in the same order and with the same bytes, so that power may be lost between any two of them and the file is the
+same. In every second life the medium fails between two requests: the life from C stops there, and has released just what `etcs run` had printed by
+then. Or it stops while sectors are still wanted: then nothing was written. Then both go on from that file.
 """
 import json
 import os
@@ -25,7 +25,7 @@ from program import inputs_of  # noqa: E402
 from random_inputs import headed, mutated  # noqa: E402
 
 LIVES = 10  # so many on one image
-KINDS = ("copy", "sectors")
+SPEEDS = ("slow", "fast")
 LEAST_CALLS, LEAST_LINES = 10, 5  # of a life, on the average
 
 ALONE = {6: 7, 7: 8, 8: 9, 9: 10, 11: 15}
@@ -111,7 +111,7 @@ class Pair:
     def __init__(self, life, folder, record, failures):
         self.life, self.record, self.failures = life, record, failures
         self.one, self.other, self.path = folder / "one", folder / "other", folder / "scenario"
-        self.calls = self.lines = self.cuts = self.within = self.stops = self.slots = self.slow = 0
+        self.calls = self.lines = self.cuts = self.within = self.stops = self.slots = 0
 
     def same(self, name):
         self.failures.unless(self.one.read_bytes() == self.other.read_bytes(), f"{name}: the files hold other bytes")
@@ -129,19 +129,17 @@ class Pair:
         self.path.write_text(json.dumps(scenario))
         text = "".join(word_of(asked) + "\n" for asked in inputs_of(scenario))
         status, printed, calls = recorded(self.record, self.one, [PROGRAM, "run", self.path, self.one])
-        for kind in KINDS:
-            is_slow = numbers.randrange(2)
-            self.slow += is_slow
-            words = [self.life, "slow-" * is_slow + kind, self.other, scenario.get("cold", 0)]
+        for speed in SPEEDS:
+            words = [self.life, speed, self.other, scenario.get("cold", 0)]
             if numbers.randrange(2):
-                self.cut(f"{name}, {kind}", before, calls, words, text, numbers)
-            if kind == "sectors" and numbers.randrange(4) == 0:
-                self.stop(name, before, words, text, numbers)
+                self.cut(f"{name}, {speed}", before, calls, words, text, numbers)
+            if numbers.randrange(4) == 0:
+                self.stop(f"{name}, {speed}", before, words, text, numbers)
             self.other.write_bytes(before)
             found = recorded(self.record, self.other, words, text)
-            self.failures.unless(found[:2] == (status, printed), f"{name}, {kind}: from C {found[0]} {found[1][:400]}, wanted {status} {printed[:400]}")
-            self.failures.unless(requests_of(after_settling(found[2])) == requests_of(calls), f"{name}, {kind}: from C the file is handed other calls")
-            self.same(f"{name}, {kind}")
+            self.failures.unless(found[:2] == (status, printed), f"{name}, {speed}: from C {found[0]} {found[1][:400]}, wanted {status} {printed[:400]}")
+            self.failures.unless(requests_of(after_settling(found[2])) == requests_of(calls), f"{name}, {speed}: from C the file is handed other calls")
+            self.same(f"{name}, {speed}")
         self.calls += len(requests_of(calls))
         self.lines += printed.count("\n")
 
@@ -172,7 +170,7 @@ class Pair:
         _, _, calls = recorded(self.record, self.one, [PROGRAM, "run", self.path, self.one])
         text = "".join(word_of(asked) + "\n" for asked in inputs_of(scenario))
         self.other.write_bytes(before)
-        self.cut(name, before, calls, [self.life, numbers.choice(KINDS), self.other, scenario.get("cold", 0)], text, numbers)
+        self.cut(name, before, calls, [self.life, numbers.choice(SPEEDS), self.other, scenario.get("cold", 0)], text, numbers)
         self.one.write_bytes(self.other.read_bytes())
 
 
@@ -190,9 +188,8 @@ def main(words):
             pair.live(f"life {number}", scenario_of(numbers), numbers)
     failures.unless(pair.calls >= LEAST_CALLS * count and pair.lines >= LEAST_LINES * count, "the lives are too short")
     failures.unless(pair.cuts >= count and pair.within >= count // 2 and pair.stops >= count // 8, "too few lives are cut off")
-    failures.unless(pair.slow >= count // 2, "too few lives have a slow medium")
-    return failures.end(f"lives from C: {count} over a copy and by sectors, with {pair.calls} requests and {pair.lines} lines each, and {pair.cuts} cut off, "
-                        f"{pair.within} of them after a write, {pair.stops} while a sector was wanted; {pair.slow} were slow")
+    return failures.end(f"lives from C: {count} on a slow and a fast medium, with {pair.calls} requests and {pair.lines} lines each, and {pair.cuts} cut off, "
+                        f"{pair.within} of them after a write, {pair.stops} while a sector was wanted")
 
 
 if __name__ == "__main__":

@@ -71,27 +71,6 @@ static inline uint32_t carry_out(medium *on, etcs_unit *unit) {
     return status == ETCS_UNIT_NO_SUCH_REQUEST ? (uint32_t)ETCS_UNIT_OK : status;
 }
 
-/* Hands in the sectors that are to be read before anything is written; how many goes to `sectors`. */
-static inline uint32_t read_sectors(const medium *on, etcs_unit *unit, uint64_t *sectors) {
-    etcs_unit_request_info request;
-    uint8_t bytes[ETCS_UNIT_REQUEST_BYTES];
-    uint32_t status;
-    *sectors = 0;
-    while ((status = etcs_unit_request(unit, &request, bytes, sizeof bytes)) == ETCS_UNIT_OK && request.kind == ETCS_REQUEST_READ) {
-        ++*sectors;
-        if ((status = etcs_unit_provide(unit, request.sector, sector_of(on, request.sector), ETCS_UNIT_SECTOR)) != ETCS_UNIT_OK)
-            return status;
-    }
-    return status == ETCS_UNIT_NO_SUCH_REQUEST ? (uint32_t)ETCS_UNIT_OK : status;
-}
-
-/* Opens a unit by sectors; how many were handed in goes to `sectors`. */
-static inline uint32_t opened_by_sectors(const medium *on, etcs_unit *unit, uint32_t cold, uint64_t *sectors) {
-    const uint32_t status = etcs_unit_begin(unit, on->len / ETCS_UNIT_SECTOR, cold);
-    *sectors = 0;
-    return status == ETCS_UNIT_OK ? read_sectors(on, unit, sectors) : status;
-}
-
 /* Prepares, carries out and releases; how many outputs there are goes to `count`. */
 static inline uint32_t flushed(medium *on, etcs_unit *unit, etcs_unit_output *outputs, uint32_t *count) {
     uint32_t status = etcs_unit_prepare(unit);
@@ -109,15 +88,9 @@ static inline uint32_t released_power_up(medium *on, etcs_unit *unit, uint32_t s
     return status == ETCS_UNIT_OK ? etcs_unit_release(unit, outputs, ETCS_UNIT_OUTPUTS, &count) : status;
 }
 
-/* Opens a unit over a copy, and carries out its power-up. */
+/* Opens a unit, and carries out its power-up. */
 static inline uint32_t powered_up(medium *on, etcs_unit *unit, uint32_t cold) {
     return released_power_up(on, unit, etcs_unit_open(unit, on->bytes, on->len, cold));
-}
-
-/* The same by sectors. */
-static inline uint32_t powered_up_by_sectors(medium *on, etcs_unit *unit, uint32_t cold) {
-    uint64_t sectors;
-    return released_power_up(on, unit, opened_by_sectors(on, unit, cold, &sectors));
 }
 
 #endif

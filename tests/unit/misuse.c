@@ -161,8 +161,6 @@ static void refused(const char *what, uint32_t found, uint32_t wanted, const etc
 static void opening(medium *on) {
     etcs_unit unit = {0};
     uint8_t *other = (uint8_t *)calloc(1, on->len + ETCS_UNIT_SECTOR);
-    refused("an older header", etcs_unit_open_(&unit, on->bytes, on->len, 0, ETCS_UNIT_ABI - 1), ETCS_UNIT_OTHER_ABI, &unit);
-    refused("a newer header", etcs_unit_open_(&unit, on->bytes, on->len, 0, ETCS_UNIT_ABI + 1), ETCS_UNIT_OTHER_ABI, &unit);
     is("the number of the interface", etcs_abi(), ETCS_UNIT_ABI);
     refused("cold 3", etcs_unit_open(&unit, on->bytes, on->len, 3), ETCS_UNIT_OUT_OF_RANGE, &unit);
     refused("cold -1", etcs_unit_open(&unit, on->bytes, on->len, UINT32_MAX), ETCS_UNIT_OUT_OF_RANGE, &unit);
@@ -273,7 +271,7 @@ static void reading(void) {
     medium on = formatted(40);
     etcs_unit unit = {0};
     uint64_t sector = 77;
-    is("power-up", powered_up_by_sectors(&on, &unit, 0), ETCS_UNIT_OK);
+    is("power-up", powered_up(&on, &unit, 0), ETCS_UNIT_OK);
     is("nothing is to be done", to_read(&unit, &sector), ETCS_UNIT_NO_SUCH_REQUEST);
     is("prepare of nothing", etcs_unit_prepare(&unit), ETCS_UNIT_OK);
     is("nothing is to be done", to_read(&unit, &sector), ETCS_UNIT_NO_SUCH_REQUEST);
@@ -314,12 +312,6 @@ static void reading(void) {
     is("prepare after a failure", etcs_unit_prepare(&unit), ETCS_UNIT_FAILED);
     is("release after a failure", etcs_unit_release(&unit, outputs, ETCS_UNIT_OUTPUTS, &count), ETCS_UNIT_FAILED);
     is("provide after a failure", etcs_unit_provide(&unit, sector, sector_of(&on, sector), ETCS_UNIT_SECTOR), ETCS_UNIT_FAILED);
-    is("close", etcs_unit_close(&unit), ETCS_UNIT_OK);
-    is("power-up over a copy", powered_up(&on, &unit, 0), ETCS_UNIT_OK);
-    is("an input", etcs_unit_clock(&unit, 1), ETCS_UNIT_OK);
-    is("prepare", etcs_unit_prepare(&unit), ETCS_UNIT_OK);
-    is("a copy has nothing to read", etcs_unit_request(&unit, &request, bytes, sizeof bytes), ETCS_UNIT_OK);
-    is("but to write", request.kind == ETCS_REQUEST_WRITE || request.kind == ETCS_REQUEST_SYNC, 1);
     is("close", etcs_unit_close(&unit), ETCS_UNIT_OK);
     free(on.bytes);
 }

@@ -1,8 +1,7 @@
 /* Refuses memory to the unit: lives one life on an image again and again, and refuses in each run one request for memory of the library's,
  * in turn, until a run meets no refusal.
  *
- *     refused IMAGE [sectors]    reads the life from standard input: `open COLD`, an input (inputs.h), `flush` or `close` on each line; opens by
- *                                sectors, or over a copy
+ *     refused IMAGE    reads the life from standard input: `open COLD`, an input (inputs.h), `flush` or `close` on each line
  *
  * A call that is refused memory says so and changes nothing that is reported; it is made once more. All else is as in a run without a refusal:
  * each status, request, byte and output, and what the medium holds in the end. Only `open` and the inputs ask for memory, and after the
@@ -63,7 +62,7 @@ static uint64_t used(void) {
 }
 
 static void begin(void) {
-    static uint8_t buffer[ETCS_MEMORY_BYTES(16, 264, 300, 9000, 9000)];
+    static uint8_t buffer[ETCS_MEMORY_BYTES(264, 300, 9000, 9000)];
     is("use", etcs_memory_use(buffer, sizeof buffer), ETCS_UNIT_OK);
 }
 
@@ -114,7 +113,6 @@ static unsigned many;
 static uint8_t image[MOST_BYTES], bytes[MOST_BYTES];
 static medium on = {bytes, 0};
 static etcs_unit unit;
-static int by_sectors;
 static unsigned refused_open, refused_inputs;
 
 /* Goes on with a digest of bytes (FNV-1a). */
@@ -124,10 +122,7 @@ static void digest(uint64_t *to, const void *from, size_t len) {
 }
 
 static uint32_t tries(const char *line, int opens, uint32_t cold) {
-    uint64_t sectors;
-    if (!opens)
-        return take(&unit, line);
-    return by_sectors ? opened_by_sectors(&on, &unit, cold, &sectors) : etcs_unit_open(&unit, on.bytes, on.len, cold);
+    return opens ? etcs_unit_open(&unit, on.bytes, on.len, cold) : take(&unit, line);
 }
 
 /* Opens, or hands in an input. Where it is refused memory it is made once more. */
@@ -226,8 +221,7 @@ static int read_all(const char *path) {
 int main(int count, char **words) {
     static answer wanted[MOST_LINES], found[MOST_LINES];
     static uint8_t left[MOST_BYTES];
-    by_sectors = count == 3 && strcmp(words[2], "sectors") == 0;
-    if (count != 2 + by_sectors || !read_all(words[1]))
+    if (count != 2 || !read_all(words[1]))
         return 2;
     begin();
     live(0, wanted);

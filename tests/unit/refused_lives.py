@@ -1,6 +1,6 @@
 #!/usr/bin/env python3
 """Refuses memory to the unit from C, each request of a life in turn (refused.c): lives on new images, on rings with blocks of all formats, and
-the events of rows of the kernel, which take memory in each of the lists that it keeps. Each life is one of a unit over a copy, and one by sectors.
+the events of rows of the kernel, which take memory in each of the lists that it keeps.
 
     tests/unit/refused_lives.py REFUSED    REFUSED is refused.c with the library
 
@@ -122,13 +122,11 @@ def main(program):
         for name, prepare, life in lives():
             at.write_bytes(image(prepare))
             text = "".join(line + "\n" for line in lines_of(life))
-            for kind in ((), ("sectors",)):
-                ran = subprocess.run([program, at, *kind], input=text, capture_output=True, text=True, timeout=120)
-                found = re.search(r"^refused: (\d+) power-ups, (\d+) inputs$", ran.stdout, re.M)
-                failures.unless(ran.returncode == 0 and not ran.stderr and found,
-                                f"{name} {kind}: status {ran.returncode} {ran.stdout[:800]} {ran.stderr[:400]}")
-                if found:
-                    power_ups, inputs = power_ups + int(found[1]), inputs + int(found[2])
+            ran = subprocess.run([program, at], input=text, capture_output=True, text=True, timeout=120)
+            found = re.search(r"^refused: (\d+) power-ups, (\d+) inputs$", ran.stdout, re.M)
+            failures.unless(ran.returncode == 0 and not ran.stderr and found, f"{name}: status {ran.returncode} {ran.stdout[:800]} {ran.stderr[:400]}")
+            if found:
+                power_ups, inputs = power_ups + int(found[1]), inputs + int(found[2])
     return failures.end(f"memory refused to the unit: {power_ups} power-ups and {inputs} inputs in {failures.count} lives")
 
 

@@ -1,6 +1,6 @@
-/* A unit over a medium that isn't copied, along with one over a copy of the same bytes: the same answers, requests and outputs, and
- * after each flush, each loss of power and each failure the same medium. Inputs come while a list is carried out; reads, writes and
- * syncs fail. */
+/* A unit whose caller reads ahead and whose reads, writes and syncs fail, along with one that is opened by etcs_unit_open and whose reads are
+ * answered at once: the same answers, requests and outputs, and after each flush, each loss of power and each failure the same medium. Inputs
+ * come while a list is carried out. */
 #include "medium.h"
 
 enum { LIVES = 120, EVENTS = 60, SLOTS = 9 };
@@ -36,7 +36,7 @@ static uint32_t hand_in(const medium *on, etcs_unit *unit, uint64_t sector) {
     return etcs_unit_provide(unit, sector, sector_of(on, sector), ETCS_UNIT_SECTOR);
 }
 
-/* Powers up by sectors. */
+/* Powers up, sector by sector. */
 static uint32_t opened(const medium *on, etcs_unit *unit, uint32_t cold) {
     uint64_t sector;
     uint32_t status = etcs_unit_begin(unit, on->len / ETCS_UNIT_SECTOR, cold);
@@ -66,10 +66,10 @@ typedef struct {
 static uint64_t moment;
 
 /* An input on both sides. */
-static void take_both(side *copy, side *few) {
+static void take_both(side *plain, side *few) {
     const uint32_t kind = draw(6), number = draw(2000);
     moment += 100;
-    is("an input", take_one(&few->unit, kind, number, moment), take_one(&copy->unit, kind, number, moment));
+    is("an input", take_one(&few->unit, kind, number, moment), take_one(&plain->unit, kind, number, moment));
 }
 
 /* How often the medium failed. */
@@ -95,6 +95,15 @@ static void read_ahead(side *few) {
     is("a sector is read ahead", etcs_unit_provide(&few->unit, sector, sector_of(&few->on, sector), ETCS_UNIT_SECTOR), ETCS_UNIT_OK);
 }
 
+/* Prepares, and answers the reads at once. */
+static uint32_t prepared_plainly(side *plain) {
+    uint64_t sector;
+    uint32_t status = etcs_unit_prepare(&plain->unit);
+    while (status == ETCS_UNIT_OK && is_to_read(&plain->unit, &sector))
+        status = etcs_unit_provide(&plain->unit, sector, sector_of(&plain->on, sector), ETCS_UNIT_SECTOR);
+    return status;
+}
+
 /* Prepares; the sector of a gate is to be read at most once. Where its read fails, so does the unit. */
 static uint32_t prepared_once(side *few) {
     uint64_t sector;
@@ -111,13 +120,13 @@ static uint32_t prepared_once(side *few) {
 }
 
 /* Carries out so many requests of the list, and a part of the next one, or all; those of both sides are the same. Whether that was all. */
-static int carried_out(side *copy, side *few, uint32_t most) {
+static int carried_out(side *plain, side *few, uint32_t most) {
     static uint8_t bytes[2][ETCS_UNIT_REQUEST_BYTES];
     etcs_unit_request_info request[2];
     for (uint32_t count = 0;; count++) {
         memset(bytes, 0, sizeof bytes);
         memset(request, 0, sizeof request);
-        const uint32_t status = etcs_unit_request(&copy->unit, &request[0], bytes[0], sizeof bytes[0]);
+        const uint32_t status = etcs_unit_request(&plain->unit, &request[0], bytes[0], sizeof bytes[0]);
         is("a request", etcs_unit_request(&few->unit, &request[1], bytes[1], sizeof bytes[1]), status);
         if (status != ETCS_UNIT_OK)
             return 1;
@@ -127,33 +136,33 @@ static int carried_out(side *copy, side *few, uint32_t most) {
             last_written = request[1].sector;
         if (count == most)
             request[0].sectors = request[1].sectors = draw((uint32_t)request[0].sectors + 1);
-        do_on(&copy->on, &request[0], bytes[0]);
+        do_on(&plain->on, &request[0], bytes[0]);
         do_on(&few->on, &request[1], bytes[1]);
         if (count == most)
             return 0;
-        is("done", etcs_unit_done(&copy->unit), ETCS_UNIT_OK);
+        is("done", etcs_unit_done(&plain->unit), ETCS_UNIT_OK);
         is("done", etcs_unit_done(&few->unit), ETCS_UNIT_OK);
         if (draw(6) == 0)
-            take_both(copy, few);
+            take_both(plain, few);
     }
 }
 
 /* Carries out and releases on both sides, unless power is lost or the medium fails within some request; whether both go on. */
-static int released(side *copy, side *few, int cut) {
+static int released(side *plain, side *few, int cut) {
     static etcs_unit_output outputs[2][ETCS_UNIT_OUTPUTS];
     uint32_t count[2] = {0, 0};
     const uint32_t most = cut ? draw(6) : UINT32_MAX;
-    const int is_all = carried_out(copy, few, most);
-    is("the same medium", (uint64_t)memcmp(copy->on.bytes, few->on.bytes, copy->on.len), 0);
+    const int is_all = carried_out(plain, few, most);
+    is("the same medium", (uint64_t)memcmp(plain->on.bytes, few->on.bytes, plain->on.len), 0);
     if (!is_all) {
         if (draw(2)) {
-            fail(&copy->unit);
+            fail(&plain->unit);
             fail(&few->unit);
         }
         return 0;
     }
     memset(outputs, 0, sizeof outputs);
-    is("release", etcs_unit_release(&copy->unit, outputs[0], ETCS_UNIT_OUTPUTS, &count[0]), ETCS_UNIT_OK);
+    is("release", etcs_unit_release(&plain->unit, outputs[0], ETCS_UNIT_OUTPUTS, &count[0]), ETCS_UNIT_OK);
     is("release", etcs_unit_release(&few->unit, outputs[1], ETCS_UNIT_OUTPUTS, &count[1]), ETCS_UNIT_OK);
     is("outputs", count[1], count[0]);
     is("outputs", (uint64_t)memcmp(outputs[0], outputs[1], sizeof outputs[0]), 0);
@@ -176,20 +185,20 @@ static void give_up(const medium *on, uint32_t cold) {
 }
 
 /* One life on both sides, up to its end, a loss of power or a failure. */
-static void life(side *copy, side *few) {
+static void life(side *plain, side *few) {
     const uint32_t cold = draw(3);
     moment = 0;
     if (draw(4) == 0)
         give_up(&few->on, cold);
     handed_in = 0;
-    is("open", etcs_unit_open(&copy->unit, copy->on.bytes, copy->on.len, cold), ETCS_UNIT_OK);
-    is("open by sectors", opened(&few->on, &few->unit, cold), ETCS_UNIT_OK);
+    is("open", etcs_unit_open(&plain->unit, plain->on.bytes, plain->on.len, cold), ETCS_UNIT_OK);
+    is("open sector by sector", opened(&few->on, &few->unit, cold), ETCS_UNIT_OK);
     /* the first sector, of each slot the gate and the head, the newest block's six and the next gate */
     is("few sectors are read", handed_in <= 1 + 2 * SLOTS + 6 + 1, 1);
-    int goes = released(copy, few, draw(10) == 0);
+    int goes = released(plain, few, draw(10) == 0);
     for (uint32_t event = 0; goes && event < EVENTS; event++) {
         const uint32_t before = handed_in;
-        take_both(copy, few);
+        take_both(plain, few);
         if (draw(4) != 0)
             continue;
         const int is_ahead = event % 2 == 0;
@@ -198,16 +207,16 @@ static void life(side *copy, side *few) {
         const uint32_t status = prepared_once(few);
         if (status == ETCS_UNIT_FAILED)
             break;
-        is("prepare", status, etcs_unit_prepare(&copy->unit));
+        is("prepare", status, prepared_plainly(plain));
         is("one sector at most, or none that was read ahead", handed_in <= before + (is_ahead ? 0 : 1), 1);
         wants += handed_in > before;
-        goes = released(copy, few, draw(20) == 0);
+        goes = released(plain, few, draw(20) == 0);
     }
-    is("close", etcs_unit_close(&copy->unit), ETCS_UNIT_OK);
+    is("close", etcs_unit_close(&plain->unit), ETCS_UNIT_OK);
     is("close", etcs_unit_close(&few->unit), ETCS_UNIT_OK);
 }
 
-/* What no power-up can be of: the answers are those over a copy. */
+/* What no power-up can be of: the answers are those of etcs_unit_open. */
 static void refusals(const medium *on) {
     medium bad = {(uint8_t *)malloc(on->len), on->len};
     etcs_unit unit = {NULL, 0};
@@ -225,13 +234,13 @@ static void refusals(const medium *on) {
 }
 
 int main(void) {
-    side copy = {formatted(SLOTS), {NULL, 0}}, few = {formatted(SLOTS), {NULL, 0}};
+    side plain = {formatted(SLOTS), {NULL, 0}}, few = {formatted(SLOTS), {NULL, 0}};
     for (uint32_t i = 0; i < LIVES; i++)
-        life(&copy, &few);
+        life(&plain, &few);
     is("a sector is read in many of the other flushes", wants >= 100, 1);
     is("the medium fails", failures >= 60, 1);
-    refusals(&copy.on);
-    free(copy.on.bytes);
+    refusals(&plain.on);
+    free(plain.on.bytes);
     free(few.on.bytes);
     return report("over sectors", 80000);
 }

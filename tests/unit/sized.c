@@ -1,8 +1,8 @@
 /* What a unit over a ring of any size reads of its medium, and takes of memory. The ring lies in a file, of which the program holds one sector at a
- * time, and one that is opened over a copy all of it.
+ * time.
  *
- *     sized fill FILE SLOTS             formats, and lives a life by sectors until each slot has held a block, and two a second one
- *     sized open FILE copy|sectors      opens, and flushes a moment of the clock
+ *     sized fill FILE SLOTS    formats, and lives a life until each slot has held a block, and two a second one
+ *     sized open FILE          opens, and flushes a moment of the clock
  *
  * `open` prints how many sectors were read until the unit was open, and by the flush; the bytes of the process that were resident then, and at most, in
  * kB; and with OWN_MEMORY, over the library without malloc, the most bytes of its buffer that were used. */
@@ -28,15 +28,6 @@ static int carries_out(const etcs_unit_request_info *request, const uint8_t *byt
 
 /* ---- a unit over the file */
 
-static uint32_t opened_over_a_copy(etcs_unit *unit, size_t size) {
-    uint8_t *const bytes = (uint8_t *)malloc(size);
-    if (bytes == NULL || !reads(0, bytes, size))
-        exit(2);
-    const uint32_t status = etcs_unit_open(unit, bytes, size, ETCS_COLD_UNKNOWN);
-    free(bytes);
-    return status;
-}
-
 /* Carries out what is to be done: only the reads at first, or all of it. */
 static void does_requests(etcs_unit *unit, int all) {
     static uint8_t bytes[ETCS_UNIT_REQUEST_BYTES];
@@ -48,7 +39,7 @@ static void does_requests(etcs_unit *unit, int all) {
     }
 }
 
-static uint32_t opened_sector_by_sector(etcs_unit *unit, size_t size) {
+static uint32_t opened(etcs_unit *unit, size_t size) {
     const uint32_t status = etcs_unit_begin(unit, size / ETCS_UNIT_SECTOR, ETCS_COLD_UNKNOWN);
     does_requests(unit, 0);
     return status;
@@ -100,16 +91,16 @@ static void fill(uint32_t slots, size_t size) {
     etcs_unit unit = {0};
     for (uint32_t i = 0; etcs_unit_format_request(slots, i, &request, bytes, sizeof bytes) == ETCS_UNIT_OK; i++)
         is("format", (uint64_t)carries_out(&request, bytes), 1);
-    is("open", opened_sector_by_sector(&unit, size), ETCS_UNIT_OK);
+    is("open", opened(&unit, size), ETCS_UNIT_OK);
     released(&unit);
     for (uint32_t moment = 0; moment <= slots; moment++)
         flush_a_moment(&unit, moment);
     is("close", etcs_unit_close(&unit), ETCS_UNIT_OK);
 }
 
-static void open_and_flush(int by_sectors, size_t size) {
+static void open_and_flush(size_t size) {
     etcs_unit unit = {0};
-    is("open", by_sectors ? opened_sector_by_sector(&unit, size) : opened_over_a_copy(&unit, size), ETCS_UNIT_OK);
+    is("open", opened(&unit, size), ETCS_UNIT_OK);
     const unsigned long by_opening = sectors_read;
     released(&unit);
     flush_a_moment(&unit, 1);
@@ -120,12 +111,12 @@ static void open_and_flush(int by_sectors, size_t size) {
 
 int main(int count, char **words) {
 #ifdef OWN_MEMORY
-    static uint8_t buffer[ETCS_MEMORY_BYTES(0, 16, 32, 100, 100)];
+    static uint8_t buffer[ETCS_MEMORY_BYTES(16, 32, 100, 100)];
     is("use", etcs_memory_use(buffer, sizeof buffer), ETCS_UNIT_OK);
 #endif
-    if (count != 4)
+    const int fills = count > 1 && strcmp(words[1], "fill") == 0;
+    if (count != 3 + fills)
         return 2;
-    const int fills = strcmp(words[1], "fill") == 0;
     const uint32_t slots = fills ? (uint32_t)strtoul(words[3], NULL, 10) : 0;
     file = open(words[2], fills ? O_RDWR | O_CREAT | O_TRUNC : O_RDWR, 0666);
     if (file < 0 || (fills && ftruncate(file, (1 + 6 * (off_t)slots) * ETCS_UNIT_SECTOR) != 0))
@@ -134,7 +125,7 @@ int main(int count, char **words) {
     if (fills)
         fill(slots, size);
     else
-        open_and_flush(strcmp(words[3], "sectors") == 0, size);
+        open_and_flush(size);
     close(file);
     return wrong > 0;
 }

@@ -1,6 +1,5 @@
 #!/usr/bin/env python3
-"""Tests a unit by sectors over rings of any size (sized.c): which sectors it reads, and that it uses as much memory over 36,000 slots as over 4; next to
-a unit over a copy.
+"""Tests a unit over rings of any size (sized.c): which sectors it reads, and that it uses as much memory over 36,000 slots as over 4.
 
     tests/unit/sized.py MALLOC BUFFER    sized.c with the library, and with the one without malloc
 
@@ -20,8 +19,8 @@ sys.path[:0] = [str(TOP / "tests")]
 from compared import Compared  # noqa: E402
 
 SMALL, GREAT = 4, 36_000
-# kB: what the system counts less exactly than by pages, and the least of the copy.
-SAME, LEAST_OF_COPY = 512, 108_000
+# kB: what the system counts less exactly than by pages.
+SAME = 512
 
 
 def figures(program, *words):
@@ -38,18 +37,15 @@ def main(program, over_buffer):
         for slots in (SMALL, GREAT):
             file = Path(folder) / str(slots)
             figures(over_buffer, "fill", file, slots)
-            found[slots] = figures(program, "open", file, "sectors")
-            found[slots, "buffer"] = figures(over_buffer, "open", file, "sectors")
-        copied = figures(program, "open", file, "copy")
+            found[slots] = figures(program, "open", file)
+            found[slots, "buffer"] = figures(over_buffer, "open", file)
     of_small, of_great = found[SMALL], found[GREAT]
     compared.same("sectors of an opening over a small ring", of_small[0], 1 + 2 * SMALL + 4)
     compared.same("sectors of an opening over a great ring", of_great[0], 1 + 2 * GREAT + 6 + 1)
-    compared.same("sectors of a flush", (of_small[1], of_great[1], copied[1]), (0, 1, 0))
-    compared.same("sectors of an opening over a copy", copied[0], 1 + 6 * GREAT)
-    compared.unless(abs(of_great[2] - of_small[2]) <= SAME and abs(of_great[3] - of_small[3]) <= SAME, f"by sectors {of_small} and {of_great}")
-    compared.unless(copied[2] >= LEAST_OF_COPY, f"over a copy {copied}")
+    compared.same("sectors of a flush", (of_small[1], of_great[1]), (0, 1))
+    compared.unless(abs(of_great[2] - of_small[2]) <= SAME and abs(of_great[3] - of_small[3]) <= SAME, f"{of_small} and {of_great}")
     compared.same("bytes used of a buffer", found[GREAT, "buffer"][4], found[SMALL, "buffer"][4])
-    return compared.end(f"memory by sectors: {of_small[3]} kB at most over {SMALL} slots, {of_great[3]} over {GREAT:,}, over a copy {copied[2]}, and {copied[3]} at most; "
+    return compared.end(f"memory: {of_small[3]} kB at most over {SMALL} slots, {of_great[3]} over {GREAT:,}; "
                         f"{found[GREAT, 'buffer'][4]:,} bytes of a buffer; {of_great[0]:,} sectors read")
 
 

@@ -1,8 +1,8 @@
 //! The calls of `include/etcs_unit.h` on a unit from its power-up on.
 use std::alloc::Global;
 use unit_calls::{
-    EtcsRequest, EtcsUnit, unit_begin_call, unit_close_call, unit_fail_call, unit_open_call,
-    unit_provide_call, unit_request_call,
+    EtcsRequest, EtcsUnit, unit_begin_call, unit_close_call, unit_fail_call, unit_provide_call,
+    unit_request_call,
 };
 
 /// Begins a power-up on a medium of so many sectors, of which none is known.
@@ -15,18 +15,6 @@ pub extern "C" fn etcs_unit_begin_(
     abi: u32,
 ) -> u32 {
     unit_begin_call(alloc, unit, sectors, cold, abi).number()
-}
-
-/// Powers up on these sectors.
-#[unsafe(no_mangle)]
-pub extern "C" fn etcs_unit_open_(
-    alloc: Global,
-    unit: &mut EtcsUnit,
-    image: &[u8],
-    cold: u32,
-    abi: u32,
-) -> u32 {
-    unit_open_call(alloc, unit, image, cold, abi).number()
 }
 
 /// Reports what is to be done next on the medium, and the bytes that it writes.

@@ -63,7 +63,7 @@ pub extern "C" fn etcs_unit_train_data_(
     train_data_call(alloc, unit, train).number()
 }
 
-/// Puts what is pending onto the copy.
+/// Turns what is pending into requests.
 #[unsafe(no_mangle)]
 pub extern "C" fn etcs_unit_prepare_(unit: &mut EtcsUnit) -> u32 {
     prepare_call(unit).number()

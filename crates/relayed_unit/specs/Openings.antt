@@ -1,4 +1,4 @@
--- A power-up that is under way over a medium that isn't copied (this project's profile). Sectors have 512 bytes and are
+-- A power-up that is under way (this project's profile). Sectors have 512 bytes and are
 -- numbered from 0.
 use Rattle.std.specs.Prelude.{◌≡◌, ℕ, ◌+◌, ◌-◌, ◌/◌, ◌<◌, ◌≤◌, true, false, List, length, Option, Some, None, IfSome}
 use Rattle.blocks.specs.FirstSector.{sectors_of}

@@ -14,7 +14,7 @@ use Rattle.onboard.specs.Answers.{flush_refusal, puts_block, refusal_of}
 use Rattle.onboard.specs.Flushes.{releases_in, without_disk, Flushes}
 use Rattle.onboard.specs.Progress.{Progress, progress_of}
 use Rattle.onboard.specs.declared.errors.AcceptError.{AcceptError}
-use Rattle.unit_start.specs.PowersUp.{Continues, PowersUp}
+use Rattle.unit_start.specs.PowersUp.{Continues}
 use Rattle.unit_start.specs.Releases.{Release}
 use Rattle.unit_start.specs.UnitState.{PartsState}
 use Rattle.unit_start.specs.declared.errors.OpenError.{OpenError}
@@ -39,15 +39,15 @@ pub record Relayed : Type 0 where
 -- ---- the list of requests
 
 abbrev pub list_of : Moored → List Call
-list_of moored = moored.reading.disk.requests
+list_of moored = moored.disk.requests
 
 -- the bytes that the requests write, one after the other
 abbrev pub written_of : Moored → List ℕ
-written_of moored = moored.reading.disk.written
+written_of moored = moored.disk.written
 
 -- how many sectors the medium has
 abbrev pub sectors_in : Moored → ℕ
-sectors_in moored = moored.reading.disk.sectors
+sectors_in moored = moored.disk.sectors
 
 -- how many requests the list has
 abbrev pub requests_of : Moored → ℕ
@@ -62,19 +62,14 @@ AllDone u = requests_of u.moored ≤ u.done
 -- what was pending was flushed onto the disk, and these outputs of it are held back
 abbrev pub IsFlushed : List Release → Moored → Moored → Type 0
 IsFlushed outputs current next = (let answer : Result (ArrayVec Release) FlushError = Ok (record { items = outputs }) in
-    Flushes releases_in (request_state current.reading.disk) (request_state next.reading.disk) (without_disk current.unit) (without_disk next.unit) answer)
+    Flushes releases_in (request_state current.disk) (request_state next.disk) (without_disk current.unit) (without_disk next.unit) answer)
 
 -- ---- what a power-up leaves
-
--- it was powered up with this cold movement value over a disk that was so before
-abbrev pub PoweredUp : State → Cold → Moored → Type 0
-PoweredUp before cold current = (let answer : Result PartsState OpenError = Ok (without_disk current.unit) in
-    PowersUp cold before (request_state current.reading.disk) answer)
 
 -- it goes on from that disk, which was ready for these lists
 abbrev pub Continued : ℕ → List Event → List Event → Cold → State → Moored → Type 0
 Continued whole_from durable accepted cold before current = (let answer : Result PartsState OpenError = Ok (without_disk current.unit) in
-    Continues whole_from durable accepted cold before (request_state current.reading.disk) answer)
+    Continues whole_from durable accepted cold before (request_state current.disk) answer)
 
 -- ---- the gate that a flush has to know
 
@@ -88,20 +83,20 @@ next_gate current = gate_at ((current.unit.journal.newest + 1) % current.unit.jo
 
 -- a flush needs it, and it isn't known
 abbrev pub wants_gate : Moored → Bool
-wants_gate current = flush_puts current && not (knows (next_gate current) current.reading.disk)
+wants_gate current = flush_puts current && not (knows (next_gate current) current.disk)
 
 -- this is whether the gate is closed, where a flush needs it
 abbrev pub IsNextGate : Bool → Moored → Type 0
 IsNextGate is_shut current = flush_puts current ≡ true
-    → is_shut ≡ next_is_closed current.unit.journal.slots current.unit.journal.newest (contents_of (request_state current.reading.disk))
+    → is_shut ≡ next_is_closed current.unit.journal.slots current.unit.journal.newest (contents_of (request_state current.disk))
 
 -- no sector is wanted
 abbrev pub WantsNothing : Moored → Type 0
-WantsNothing current = current.reading.disk.wanted ≡ None
+WantsNothing current = current.disk.wanted ≡ None
 
 -- no sector of the medium is open; the disk holds what it held, and the journal stands over it as before
 abbrev pub StaysOpen : Moored → Moored → Type 0
-StaysOpen before after = (let old : State = request_state before.reading.disk in let new : State = request_state after.reading.disk in
+StaysOpen before after = (let old : State = request_state before.disk in let new : State = request_state after.disk in
     IsSynced old × IsSynced new × ((s : ℕ) → contents_of new s ≡ contents_of old s)
     × ((reported : Account) → IsOpen before.unit.journal reported old → IsOpen after.unit.journal reported new))
 
@@ -127,7 +122,7 @@ refused_as a_flush.DeviceFault = a_prepare.Failed
 abbrev pub prepare_refusal : Bool → Moored → Option PrepareError
 prepare_refusal failed current =
     if failed then Some a_prepare.Failed
-    else if nat_lt 0 (length current.reading.disk.requests) then Some a_prepare.RequestsOwed
+    else if nat_lt 0 (length current.disk.requests) then Some a_prepare.RequestsOwed
     else if wants_gate current then Some a_prepare.SectorWanted
     else option_map refused_as (flush_refusal current.unit.journal.failed (length current.unit.life.records) current.unit.journal.newest)
 
@@ -145,7 +140,7 @@ IsLeftBy a_prepare.Failed before after = after ≡ before
 IsLeftBy a_prepare.RequestsOwed before after = after ≡ before
 IsLeftBy a_prepare.WornOut before after = after ≡ before
 IsLeftBy a_prepare.SectorWanted before after = (after.unit ≡ before.unit)
-    × (after.reading.disk ≡ record before.reading.disk { wanted = Some (next_gate before) })
+    × (after.disk ≡ record before.disk { wanted = Some (next_gate before) })
 
 -- why nothing is released: the first of these that holds
 abbrev pub release_refusal : Relayed → Option ReleaseError
@@ -159,4 +154,4 @@ release_refusal u =
 
 -- it isn't released yet: it is pending, or its requests are still in the list
 abbrev pub is_unreleased : Moored → Bool
-is_unreleased current = nat_lt 0 (length current.reading.disk.requests) || nat_lt 0 (length current.unit.life.records)
+is_unreleased current = nat_lt 0 (length current.disk.requests) || nat_lt 0 (length current.unit.life.records)

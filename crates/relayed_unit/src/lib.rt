@@ -1,6 +1,5 @@
 //! A unit whose medium only its maker's own code can reach (this project's profile): a flush answers the requests that
-//! the maker carries out, and its outputs are held back until he says that all are done. It powers up over a copy of
-//! the medium, or sector by sector.
+//! the maker carries out, and its outputs are held back until he says that all are done. It powers up sector by sector.
 #![tactic(auto)]
 
 mod absent;

@@ -1,6 +1,6 @@
 -- Sectors that are held.
 use Rattle.std.proofs.Common.{◌≡◌, ℕ, ◌+◌, ◌*◌, ◌<◌, ◌≤◌, ◌==◌, Bool, true, false, cond, not, ◌||◌, List, [], ◌∷◌, ◌++◌, length, map, take, drop, get_or, refl, sym, ◌∙◌, ap, subst, arith, rules, lit<, suc, Option, Some, None, is_some}
-use Rattle.std.specs.Prelude.{All, IfSome, IfOk, Result, Ok, Err, nat_lt, position, if◌then◌else◌}
+use Rattle.std.specs.Prelude.{All, IfSome, nat_lt, position, if◌then◌else◌}
 use Rattle.std.specs.List.{position_or_len, AllByRecursion}
 use Rattle.std.proofs.lemmas.Bool.Decides.{nat_tests}
 use Rattle.std.proofs.lemmas.List.{length-map, map_push, drop-map}
@@ -10,12 +10,9 @@ use Rattle.disk.specs.State.{sector_of, contents_of}
 use Rattle.disk.specs.Record.{IsWithin, bytes_at, trace_of}
 use Rattle.disk.specs.declared.record.Call.{Call}
 use Rattle.request_disk.specs.Requests.{found_in, reported_at}
-use Rattle.request_disk.specs.Held.{is_held, with_number, AreHeld, IsWhole}
-use Rattle.request_disk.specs.declared.held.Held.{Held}
-use Rattle.request_disk.specs.declared.held.Held.TheVariants.{Whole, Few}
 use Rattle.request_disk.proofs.Found.{bytes_now}
 use Rattle.request_disk.specs.declared.known.Known.{Known}
-use Rattle.request_disk.specs.Known.{numbers_of, has_number, with_space, IsHeld, reported_or, renewed}
+use Rattle.request_disk.specs.Known.{numbers_of, has_number, with_number, with_space, IsHeld, reported_or, renewed}
 use Rattle.request_disk.specs.Medium.{with_sectors, carried}
 use Rattle.request_disk.specs.Requesting.{Requesting, knows, request_state}
 use Rattle.request_disk.proofs.Carried.{carried_reported, put_one, put_other, put_same_bytes, reported_other}
@@ -61,11 +58,11 @@ held_renewed sectors medium written calls known within size all =
 
 -- a sector is known that a request writes, or that is held
 pub knows_found : (s at : ℕ) (w : Requesting) → found_in s w.requests ≡ Some at → knows s w ≡ true
-knows_found s at w is = ap (λ (o : Option ℕ). is_some o || is_held s w.known) is
+knows_found s at w is = ap (λ (o : Option ℕ). is_some o || has_number s w.known) is
 
 -- and one that no request writes, where it is held
-pub knows_held : (s : ℕ) (w : Requesting) → found_in s w.requests ≡ None → knows s w ≡ is_held s w.known
-knows_held s w is = ap (λ (o : Option ℕ). is_some o || is_held s w.known) is
+pub knows_held : (s : ℕ) (w : Requesting) → found_in s w.requests ≡ None → knows s w ≡ has_number s w.known
+knows_held s w is = ap (λ (o : Option ℕ). is_some o || has_number s w.known) is
 
 -- one more is held
 space_if : (P : Known → Type 0) (b : Bool) (known : List Known) → All P known → All P (if b then drop 1 known else known)
@@ -93,7 +90,7 @@ none_if (Some at) b is = search (rules, is)
 pub unknown_contents : (s : ℕ) (w : Requesting) → knows s w ≡ false → contents_of (request_state w) s ≡ sector_of w.medium s
 unknown_contents s w is =
     sym (bytes_now w.medium w.written s w.requests)
-    ∙ ap (λ (o : Option ℕ). reported_at w.medium w.written s o) (none_if (found_in s w.requests) (is_held s w.known) is)
+    ∙ ap (λ (o : Option ℕ). reported_at w.medium w.written s o) (none_if (found_in s w.requests) (has_number s w.known) is)
 
 -- a number that was added is there
 last_there : (s : ℕ) (xs : List ℕ) → position_or_len (λ n. n == s) (xs ++ s ∷ []) < length (xs ++ s ∷ [])
@@ -144,14 +141,14 @@ held_still sectors medium medium' s others known none all =
 
 -- a sector that isn't known is neither written nor held
 pub unknown_found : (s : ℕ) (w : Requesting) → knows s w ≡ false → found_in s w.requests ≡ None
-unknown_found s w is = none_if (found_in s w.requests) (is_held s w.known) is
+unknown_found s w is = none_if (found_in s w.requests) (has_number s w.known) is
 
 or_left : (a b : Bool) → (a || b) ≡ false → b ≡ false
 or_left true b is = search (rules, is)
 or_left false b is = is
 
-pub unknown_held : (s : ℕ) (w : Requesting) → knows s w ≡ false → is_held s w.known ≡ false
-unknown_held s w is = or_left (is_some (found_in s w.requests)) (is_held s w.known) is
+pub unknown_held : (s : ℕ) (w : Requesting) → knows s w ≡ false → has_number s w.known ≡ false
+unknown_held s w is = or_left (is_some (found_in s w.requests)) (has_number s w.known) is
 
 -- the disk on a medium with a sector's bytes
 module _ (w : Requesting) (s : ℕ) (bytes : List ℕ) (below : s < w.sectors) (one : length bytes ≡ 512) (size : length w.medium ≡ 512 * w.sectors) (unknown : knows s w ≡ false) where
@@ -173,23 +170,11 @@ module _ (w : Requesting) (s : ℕ) (bytes : List ℕ) (below : s < w.sectors) (
   pub same_medium : bytes ≡ contents_of (request_state w) s → next ≡ w.medium
   same_medium is = put_same_bytes w.sectors w.medium bytes s below one size (is ∙ unknown_contents s w unknown)
 
--- ---- what is held of a whole medium, or of some sectors
-
--- where all is held it is so many sectors
-pub held_whole : (sectors : ℕ) (medium : List ℕ) (held : Held) → length medium ≡ 512 * sectors → AreHeld sectors medium held → IsWhole sectors held
-held_whole sectors medium (Whole bytes) size is = bytes.ok.0 ∙ ap length is ∙ size
-held_whole sectors medium (Few known) size is = tt
-
 -- a sector that is handed in is held
-pub has_added : (s : ℕ) (known : Option (List ℕ)) → is_held s (with_number s known) ≡ true
-has_added s None = refl
-has_added s (Some numbers) = has_last s (with_space numbers)
+pub has_added : (s : ℕ) (known : List ℕ) → has_number s (with_number s known) ≡ true
+has_added s known = has_last s (with_space known)
 
 -- what is so of what an answer has
 pub if_some : (T : Type 0) (P Q : T → Type 0) (each : (x : T) → P x → Q x) (o : Option T) → IfSome o P → IfSome o Q
 if_some T P Q each None is = is
 if_some T P Q each (Some x) is = each x is
-
-pub if_ok : (T E : Type 0) (P Q : T → Type 0) (each : (x : T) → P x → Q x) (r : Result T E) → IfOk r P → IfOk r Q
-if_ok T E P Q each (Ok x) is = each x is
-if_ok T E P Q each (Err e) is = is

@@ -1,5 +1,5 @@
 -- Sectors that are held with their bytes (this project's profile). Sectors have 512 bytes and are numbered from 0.
-use Rattle.std.specs.Prelude.{◌≡◌, ℕ, ◌<◌, ◌≤◌, ◌==◌, Bool, if◌then◌else◌, List, Vec, length, map, take, drop, position, Option, Some, None, is_some, vec_len, vec_capacity}
+use Rattle.std.specs.Prelude.{◌≡◌, ℕ, ◌<◌, ◌≤◌, ◌==◌, ◌∷◌, ◌++◌, [], Bool, if◌then◌else◌, List, Vec, length, map, take, drop, position, Option, Some, None, is_some, vec_len, vec_capacity}
 use Rattle.disk.specs.State.{sector_of}
 use Rattle.disk.specs.declared.record.Call.{Call}
 use Rattle.request_disk.specs.Requests.{found_in}
@@ -20,6 +20,10 @@ HasSpace known = (vec_len known ≤ 16) × (16 ≤ vec_capacity known)
 -- with space for one more: where there are 16 the first of them is forgotten
 abbrev pub with_space : {X : Type 0} → List X → List X
 with_space xs = if length xs == 16 then drop 1 xs else xs
+
+-- with one number more
+abbrev pub with_number : ℕ → List ℕ → List ℕ
+with_number s numbers = with_space numbers ++ s ∷ []
 
 -- a sector that is held is one of the medium's, and holds the medium's bytes
 pub record IsHeld (sectors : ℕ) (medium : List ℕ) (k : Known) : Type 0 where

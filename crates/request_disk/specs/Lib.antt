@@ -1,5 +1,4 @@
 pub mod Handed
-pub mod Held
 pub mod Known
 pub mod Lent
 pub mod Medium

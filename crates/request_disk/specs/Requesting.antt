@@ -1,47 +1,38 @@
--- What contracts see of a disk that hands out its calls, and holds all of its medium or only some sectors (this
--- project's profile). Sectors have 512 bytes and are numbered from 0; requests are in the order of the calls.
-use Rattle.std.specs.Prelude.{◌≡◌, ℕ, ◌+◌, ◌-◌, ◌*◌, ◌/◌, ◌%◌, ◌^◌, ◌<◌, ◌≤◌, min, ◌&&◌, ◌||◌, ◌∷◌, ◌++◌, [], nat_le, nat_lt, true, false, Bool, if◌then◌else◌, List, length, take, All, Option, Some, None, is_some, vec_len, vec_capacity}
+-- What contracts see of a disk that hands out its calls, and holds some sectors of its medium (this project's profile).
+-- Sectors have 512 bytes and are numbered from 0; requests are in the order of the calls.
+use Rattle.std.specs.Prelude.{◌≡◌, ℕ, ◌-◌, ◌*◌, ◌/◌, ◌≤◌, min, ◌&&◌, ◌||◌, ◌∷◌, ◌++◌, [], nat_le, nat_lt, Bool, if◌then◌else◌, List, length, All, Option, None, is_some, vec_len, vec_capacity}
 use Rattle.disk.specs.State.{State}
 use Rattle.disk.specs.Record.{state_of, IsWithin}
 use Rattle.disk.specs.declared.record.Call.{Call}
 use Rattle.disk.specs.declared.record.Call.TheVariants.{Written}
 use Rattle.request_disk.specs.Requests.{IsRequest, found_in}
 use Rattle.request_disk.specs.Medium.{with_sectors, carried}
-use Rattle.request_disk.specs.Held.{is_held, with_number, AreHeld, HasSpaces}
+use Rattle.request_disk.specs.Known.{has_number, with_number, HasSpace, IsHeld}
 use Rattle.request_disk.specs.declared.requesting.RequestDisk.TheInside.{Inside}
 
 -- How many sectors the medium has, the bytes that it held when its list of requests was last empty, the sectors whose
--- bytes were handed in, from the one that came first on (None where all the medium is held), the requests since the
--- list was empty, the bytes that they write, one after the other, how many calls failed, and which sector a read wanted
--- last.
+-- bytes were handed in, from the one that came first on, the requests since the list was empty, the bytes that they
+-- write, one after the other, how many calls failed, and which sector is wanted.
 pub record Requesting : Type 0 where
   pub sectors : ℕ
   pub medium : List ℕ
-  pub known : Option (List ℕ)
+  pub known : List ℕ
   pub requests : List Call
   pub written : List ℕ
   pub faults : ℕ
   pub wanted : Option ℕ
 
--- a new one, on a medium of these bytes, of which these sectors are known
-abbrev pub new_on : List ℕ → ℕ → Option (List ℕ) → Requesting
-new_on medium sectors known = record {
+-- a new one of whose medium nothing is known
+abbrev pub nothing_of : List ℕ → ℕ → Requesting
+nothing_of medium sectors = record {
   sectors = sectors;
   medium = medium;
-  known = known;
+  known = [];
   requests = [];
   written = [];
   faults = 0;
   wanted = None;
 }
-
--- a new copy of these bytes; those after the last whole sector are left out
-abbrev pub copy_of : List ℕ → Requesting
-copy_of bytes = new_on (take (512 * (length bytes / 512)) bytes) (length bytes / 512) None
-
--- a new one of whose medium nothing is known
-abbrev pub nothing_of : List ℕ → ℕ → Requesting
-nothing_of medium sectors = new_on medium sectors (Some [])
 
 -- What contracts see of it as a disk. It is honest, and its moments are its requests: moment k is after the first k of
 -- them. A read is no moment. It holds what the medium holds, also of a sector that isn't known.
@@ -68,8 +59,8 @@ pub record IsRequesting (d : Requesting) : Type 0 where
 -- taken.
 pub record IsKept (m : Inside) : Type 0 where
   pub whole : length m.medium.bytes ≡ 512 * m.sectors
-  pub held : AreHeld m.sectors m.medium.bytes m.held
-  pub held_fit : HasSpaces m.held
+  pub held : All (IsHeld m.sectors m.medium.bytes) m.known.items
+  pub held_fit : HasSpace m.known
   pub within : All (IsWithin m.sectors (vec_len m.written)) m.requests.items
   pub only : All IsRequest m.requests.items
   pub none : vec_len m.requests ≡ 0 → vec_len m.written ≡ 0
@@ -80,30 +71,7 @@ pub record IsKept (m : Inside) : Type 0 where
 
 -- whether the bytes of sector s are known: they are held, or a request writes them
 abbrev pub knows : ℕ → Requesting → Bool
-knows s d = is_some (found_in s d.requests) || is_held s d.known
-
--- the sectors from `first` on that so many bytes fill are known
-abbrev pub KnowsAll : ℕ → ℕ → Requesting → Type 0
-KnowsAll first bytes d = (i : ℕ) → 512 * i < bytes → knows (first + i) d ≡ true
-
--- sector s is the first of those that isn't known
-pub record IsFirstUnknown (first bytes : ℕ) (d : Requesting) (s : ℕ) : Type 0 where
-  pub from : first ≤ s
-  pub below : 512 * s < 512 * first + bytes
-  pub unknown : knows s d ≡ false
-  pub before : (t : ℕ) → first ≤ t → t < s → knows t d ≡ true
-
--- a sector is wanted of which P holds, a failure was counted, and all else is as it was
-abbrev pub Wants : (ℕ → Type 0) → Requesting → Requesting → Type 0
-Wants P old new = (s : ℕ) × P s × (new ≡ record old { faults = (old.faults + 1) % 2 ^ 64; wanted = Some s })
-
--- how many units of calls surely succeed where sectors are read too: none where only some are held
-abbrev pub where_all : Option (List ℕ) → ℕ → ℕ
-where_all None units = units
-where_all (Some known) units = 0
-
-abbrev pub reading_reserve : Requesting → ℕ
-reading_reserve d = where_all d.known (request_reserve d)
+knows s d = is_some (found_in s d.requests) || has_number s d.known
 
 -- ---- what a call leaves
 

@@ -1,11 +1,10 @@
 //! The disk.
-ghost use Rattle.std.specs.Prelude.{◌≡◌, ℕ, ◌+◌, ◌*◌, ◌/◌, ◌%◌, ◌^◌, ◌<◌, ◌≤◌, ◌==◌, length, take, drop, List, ◌∷◌, ◌++◌, [], true, false, IsTrue, IfOk, IfErr, IfSome, OnOk, OnErr, Option, Some, None, MatchOption, MatchResult, is_err, is_some, is_none, if◌then◌else◌};
+ghost use Rattle.std.specs.Prelude.{◌≡◌, ℕ, ◌+◌, ◌*◌, ◌/◌, ◌%◌, ◌^◌, ◌<◌, ◌≤◌, ◌==◌, length, take, drop, List, ◌∷◌, ◌++◌, [], true, false, IsTrue, IfOk, IfSome, OnOk, OnErr, Option, Some, None, MatchOption, MatchResult, is_err, is_some, if◌then◌else◌};
 ghost use Rattle.disk.specs.State.{contents_of, sector_of, AreSectors, Counted, Touches, Holds, AreOpen, OpenOrSame, SameOpenOutside, SameOpen, IsSynced};
 ghost use Rattle.disk.specs.Reserve.{Spends};
 ghost use Rattle.disk.specs.Record.{IsWithin};
 
-use crate::held::Held;
-use crate::known::{Known, MOST_KNOWN};
+use crate::known::{Known, MOST_KNOWN, carry, has, held_of, hold};
 use crate::medium::Medium;
 use crate::requests::found;
 use disk::{Call, DiskFault, SECTOR_BYTES, Span, WriteDisk};
@@ -19,16 +18,16 @@ pub const MOST_REQUESTS: usize = 16;
 /// How many bytes there is space for: a commit writes seven sectors.
 pub const MOST_BYTES: usize = 8192;
 
-/// A disk that notes each write and each sync as a request. It holds all of its medium or only some sectors, takes all
-/// its memory where it is made, and says which sector is wanted. A call beyond its space answers DiskFault and changes
-/// nothing else.
+/// A disk that notes each write and each sync as a request. It holds some sectors of its medium, takes all its memory
+/// where it is made, and says which sector is wanted. A call beyond its space answers DiskFault and changes nothing
+/// else.
 #[derive(Drop)]
 pub struct RequestDisk {
     sectors: u64,
     // What the medium held when the list was last empty.
     medium: Medium,
-    // The same, as far as it is at hand.
-    held: Held,
+    // The same, as far as it is at hand: some sectors, from the one that came first on.
+    known: Vec<Known>,
     requests: Vec<Call>,
     // The bytes of the requests.
     written: Vec<u8>,
@@ -37,33 +36,19 @@ pub struct RequestDisk {
 }
 
 impl Model for RequestDisk {
-    ghost use Rattle.request_disk.specs.Held.{known_of};
+    ghost use Rattle.request_disk.specs.Known.{numbers_of};
     ghost use Rattle.request_disk.specs.Requesting.{Requesting, IsKept};
 
     ghost Value = { Requesting };
 
-    ghost view = { λ m. record { sectors = m.sectors; medium = m.medium.bytes; known = known_of m.held; requests = m.requests.items; written = m.written.items; faults = m.faults; wanted = m.wanted } };
+    ghost view = { λ m. record { sectors = m.sectors; medium = m.medium.bytes; known = numbers_of m.known.items; requests = m.requests.items; written = m.written.items; faults = m.faults; wanted = m.wanted } };
 
     ghost invariant = { IsKept };
 }
 
 impl RequestDisk {
-    ghost use Rattle.request_disk.specs.Held.{known_of, handed_in, AreHeld, HasSpaces};
     ghost use Rattle.request_disk.specs.Requests.{IsRequest, ends_in_sync};
-    ghost use Rattle.request_disk.specs.Requesting.{new_on, copy_of, nothing_of, request_state, request_reserve, has_space_for, knows, with_sector, with_carried, wanting_nothing, IsRequesting, KnowsAll, IsFirstUnknown, IsNoted};
-
-    /// A copy of these sectors; bytes after the last whole one are left out. NoMemory where there is none for it.
-    pub fn copy_of(alloc: Global, bytes: &[u8]) -> Result<RequestDisk, NoMemory>
-        ensures exact { IfOk result (λ d. d ≡ copy_of bytes.now) }
-        ensures contents { IfOk result (λ d. (s : ℕ) → s < length bytes.now / 512 →
-            contents_of (request_state d) s ≡ sector_of bytes.now s) }
-        ensures synced { IfOk result (λ d. IsSynced (request_state d)) }
-    {
-        let sectors = bytes.len() / SECTOR_BYTES;
-        let mut whole = Vec::with_capacity(alloc, SECTOR_BYTES * sectors)?;
-        whole.extend_from_slice(&bytes[..SECTOR_BYTES * sectors])?;
-        RequestDisk::holding(alloc, sectors as u64, Held::Whole(whole))
-    }
+    ghost use Rattle.request_disk.specs.Requesting.{nothing_of, request_state, request_reserve, has_space_for, knows, with_sector, with_carried, wanting_nothing, IsRequesting, IsNoted};
 
     /// A disk on a medium of so many sectors, of which none is known. NoMemory where there is none for it.
     pub fn on(alloc: Global, sectors: u64) -> Result<RequestDisk, NoMemory>
@@ -73,22 +58,10 @@ impl RequestDisk {
         ensures contents { IfOk result (λ d. (s : ℕ) → contents_of (request_state d) s ≡ sector_of medium s) }
         ensures synced { IfOk result (λ d. IsSynced (request_state d)) }
     {
-        let few = Held::Few(Vec::with_capacity(alloc, MOST_KNOWN)?);
-        RequestDisk::holding(alloc, sectors, few)
-    }
-
-    // A new one that holds this of its medium.
-    fn holding(alloc: Global, sectors: u64, held: Held) -> Result<RequestDisk, NoMemory>
-        ghost medium: { List ℕ }
-        requires whole { length medium ≡ 512 * sectors }
-        requires held { AreHeld sectors medium held }
-        requires space { HasSpaces held }
-        ensures { IfOk result (λ d. d ≡ new_on medium sectors (known_of held)) }
-    {
         Ok(RequestDisk {
             sectors,
             medium: Medium::of(),
-            held,
+            known: Vec::with_capacity(alloc, MOST_KNOWN)?,
             requests: Vec::with_capacity(alloc, MOST_REQUESTS)?,
             written: Vec::with_capacity(alloc, MOST_BYTES)?,
             faults: 0,
@@ -96,14 +69,7 @@ impl RequestDisk {
         })
     }
 
-    /// Whether all of the medium is held.
-    pub fn is_whole(&self) -> bool
-        ensures { result ≡ is_none self.now.known }
-    {
-        matches!(self.held, Held::Whole(_))
-    }
-
-    /// The sector that the last read wanted that failed, until one is handed in.
+    /// The sector that is wanted, until one is handed in.
     pub fn wanted(&self) -> Option<u64>
         ensures { result ≡ self.now.wanted }
     {
@@ -115,7 +81,7 @@ impl RequestDisk {
         ensures { result ≡ knows sector self.now }
     {
         found(&self.requests, sector, self.sectors, self.written.len()).is_some()
-            || self.held.has(sector)
+            || has(&self.known, sector)
     }
 
     /// Whether a sector is known; where it isn't, it is wanted from now on. A caller asks so for what a step will read
@@ -148,7 +114,7 @@ impl RequestDisk {
 
         // The sector is known, and what was known stays so where fewer than 16 were handed in.
         ensures known { knows sector self.new ≡ true }
-        ensures stays { handed_in self.old.known < 16 → (s : ℕ) → knows s self.old ≡ true → knows s self.new ≡ true }
+        ensures stays { length self.old.known < 16 → (s : ℕ) → knows s self.old ≡ true → knows s self.new ≡ true }
     {
         self.wanted = None;
         if self.knows(sector) {
@@ -160,10 +126,13 @@ impl RequestDisk {
             from: 0,
         };
         self.medium.carry(bytes, &[Call::Written(span)]);
-        self.held.add(Known {
-            sector,
-            bytes: *bytes,
-        });
+        hold(
+            &mut self.known,
+            Known {
+                sector,
+                bytes: *bytes,
+            },
+        );
     }
 
     /// How many requests there are since the list was last emptied. Where there is none, there is space for 16 units.
@@ -234,7 +203,7 @@ impl RequestDisk {
     {
         self.wanted = None;
         self.medium.carry(&self.written, &self.requests);
-        self.held.carry(&self.written, &self.requests, self.sectors);
+        carry(&mut self.known, &self.written, &self.requests, self.sectors);
         self.requests.clear();
         self.written.clear();
     }
@@ -273,14 +242,6 @@ impl RequestDisk {
         DiskFault
     }
 
-    // Wants a sector, and counts a failure.
-    pub(crate) fn want(&mut self, sector: u64) -> DiskFault
-        ensures { self.new ≡ record self.old { faults = (self.old.faults + 1) % 2 ^ 64; wanted = Some sector } }
-    {
-        self.wanted = Some(sector);
-        self.fault()
-    }
-
     /// What the medium holds of a sector after these requests, None where that isn't known. The caller owes a sector
     /// that the medium has.
     pub fn sector(&self, sector: u64) -> Option<&[u8]>
@@ -291,29 +252,8 @@ impl RequestDisk {
     {
         match found(&self.requests, sector, self.sectors, self.written.len()) {
             Some(at) => Some(&self.written[at..at + SECTOR_BYTES]),
-            None => self.held.sector(sector, self.sectors),
+            None => held_of(&self.known, sector),
         }
-    }
-
-    // What it holds of these sectors, as far as they are known: else the first that isn't.
-    pub(crate) fn copy(&self, first: u64, out: &mut [u8]) -> Result<(), u64>
-        requires whole { length out.old % 512 ≡ 0 }
-        requires within { 512 * first + length out.old ≤ 512 * self.now.sectors }
-        ensures bytes { OnOk result (Holds (contents_of (request_state self.now)) first out.new) }
-        ensures known { OnOk result (KnowsAll first (length out.old) self.now) }
-        ensures unknown { IfErr result (IsFirstUnknown first (length out.old) self.now) }
-    {
-        // That a sector's number fits its type.
-        let _sectors = self.sectors;
-        for i in 0..out.len() / SECTOR_BYTES {
-            let at = SECTOR_BYTES * i;
-            let sector = first + i as u64;
-            match self.sector(sector) {
-                Some(bytes) => out[at..at + SECTOR_BYTES].copy_from_slice(bytes),
-                None => return Err(sector),
-            }
-        }
-        Ok(())
     }
 }
 

@@ -10,7 +10,6 @@ use Rattle.events.specs.declared.input.Event.TheVariants.{Input as an_input}
 use Rattle.events.specs.declared.input.Input.{Input}
 use Rattle.request_disk.specs.Requests.{ends_in_sync}
 use Rattle.request_disk.specs.Requesting.{Requesting, request_state}
-use Rattle.request_disk.specs.declared.reading.Reading.{Reading}
 use Rattle.onboard.specs.Answers.{flush_refusal}
 use Rattle.unit_start.specs.Events.{IsAhead}
 use Rattle.unit_start.specs.Releases.{Release}
@@ -68,15 +67,15 @@ same_unit a_prepare.RequestsOwed before after left = ap (λ (m : Moored). m.unit
 same_unit a_prepare.WornOut before after left = ap (λ (m : Moored). m.unit) left
 same_unit a_prepare.SectorWanted before after left = left.0
 
-same_disk : (e : PrepareError) (before after : Moored) → IsLeftBy e before after → request_state after.reading.disk ≡ request_state before.reading.disk
-same_disk a_prepare.Failed before after left = ap (λ (m : Moored). request_state m.reading.disk) left
-same_disk a_prepare.RequestsOwed before after left = ap (λ (m : Moored). request_state m.reading.disk) left
-same_disk a_prepare.WornOut before after left = ap (λ (m : Moored). request_state m.reading.disk) left
+same_disk : (e : PrepareError) (before after : Moored) → IsLeftBy e before after → request_state after.disk ≡ request_state before.disk
+same_disk a_prepare.Failed before after left = ap (λ (m : Moored). request_state m.disk) left
+same_disk a_prepare.RequestsOwed before after left = ap (λ (m : Moored). request_state m.disk) left
+same_disk a_prepare.WornOut before after left = ap (λ (m : Moored). request_state m.disk) left
 same_disk a_prepare.SectorWanted before after left = ap (λ (d : Requesting). request_state d) left.1
 
 module _ {whole_from sectors : ℕ} {handed : List EtcsOutput} {medium : Platter} {carried : ℕ} where
   -- the unit is as it was, and its disk holds what it held
-  still : (before after : Relayed) → after.moored.unit ≡ before.moored.unit → request_state after.moored.reading.disk ≡ request_state before.moored.reading.disk
+  still : (before after : Relayed) → after.moored.unit ≡ before.moored.unit → request_state after.moored.disk ≡ request_state before.moored.disk
       → after.outputs ≡ before.outputs → after.done ≤ carried → Floats whole_from sectors handed medium carried before → Floats whole_from sectors handed medium carried after
   still before after unit disk outputs said floats =
       let Ahead : UnitState Absent → Type 0 = λ u. IsAhead floats.durable floats.accepted u.life in
@@ -87,7 +86,7 @@ module _ {whole_from sectors : ℕ} {handed : List EtcsOutput} {medium : Platter
   takes_on input before after (Ok x) its floats =
       let said = floats.said in
       let done = its.held.1 in
-      stays floats after (ap (λ (r : Reading). request_state r.disk) its.copy.0) its.copy.1 its.held.0 (omega (arith, said, done))
+      stays floats after (ap (λ (d : Requesting). request_state d) its.disk.0) its.disk.1 its.held.0 (omega (arith, said, done))
       (an_input input ∷ floats.accepted) (its.accepted floats.durable floats.accepted floats.ahead)
 
   pub prepares_on : (before after : Relayed) (reported : Result ⊤ PrepareError) → IsPrepared before after reported → Floats whole_from sectors handed medium carried before → Floats whole_from sectors handed medium carried after
@@ -97,9 +96,9 @@ module _ {whole_from sectors : ℕ} {handed : List EtcsOutput} {medium : Platter
       still before after (same_unit e before.moored after.moored its.undone) (same_disk e before.moored after.moored its.undone) its.held.0 (omega (arith, said, done)) floats
   prepares_on before after (Ok x) its floats =
       let current : Moored = before.moored in
-      let owed : nat_lt 0 (length current.reading.disk.requests) ≡ false = none_owed x before.failed (nat_lt 0 (length current.reading.disk.requests))
+      let owed : nat_lt 0 (length current.disk.requests) ≡ false = none_owed x before.failed (nat_lt 0 (length current.disk.requests))
       (if wants_gate current then Some a_prepare.SectorWanted else option_map refused_as (flush_refusal current.unit.journal.failed (length current.unit.life.records) current.unit.journal.newest)) its.exact in
-      let least : length current.reading.disk.requests ≤ 0 = not_above 0 (length current.reading.disk.requests) owed in
+      let least : length current.disk.requests ≤ 0 = not_above 0 (length current.disk.requests) owed in
       let following = its.flushes.flushed whole_from floats.durable floats.accepted refl floats.opened floats.ahead in
       prepares floats (omega (arith, least)) after its.flushes.counted.sectors (its.flushes.any_moment whole_from floats.durable floats.accepted refl floats.opened floats.ahead)
       following.0 following.1 its.flushes.released its.initial
@@ -121,8 +120,8 @@ module _ {whole_from sectors : ℕ} {handed : List EtcsOutput} {medium : Platter
       let put = so.1 in
       let said = floats.said in
       let done = put.held.1 in
-      let same : request_state after.unit.moored.reading.disk ≡ request_state before.unit.moored.reading.disk =
-      provided_same before.unit.moored.reading.disk sector bytes after.unit.moored.reading.disk carried put.exact.1 put.same (read so.0 ∙ floats.there.contents sector) in
+      let same : request_state after.unit.moored.disk ≡ request_state before.unit.moored.disk =
+      provided_same before.unit.moored.disk sector bytes after.unit.moored.disk carried put.exact.1 put.same (read so.0 ∙ floats.there.contents sector) in
       still before.unit after.unit put.exact.0 same put.held.0 (omega (arith, said, done)) floats)
       (λ nothing. subst (λ (o : Opened). Floats whole_from sectors handed medium carried o.unit) (sym nothing.1) floats)
       its

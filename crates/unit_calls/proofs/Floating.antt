@@ -25,21 +25,21 @@ moment_of disk k = (request_state disk).at k
 
 -- What is so between two calls: of what was handed out, what is held back, the list, and how far it was carried out.
 pub record Floats (whole_from sectors : ℕ) (handed : List EtcsOutput) (medium : Platter) (carried : ℕ) (u : Relayed) : Type 0 where
-  pub size : u.moored.reading.disk.sectors ≡ sectors
+  pub size : u.moored.disk.sectors ≡ sectors
   -- what the medium has where the list begins, what it has where the list ends, and what was accepted
   pub settled : List Event
   pub durable : List Event
   pub accepted : List Event
   pub more : List Event
   pub begins : durable ≡ more ++ settled
-  pub opened : IsOpen u.moored.unit.journal (account_of whole_from durable) (request_state u.moored.reading.disk)
+  pub opened : IsOpen u.moored.unit.journal (account_of whole_from durable) (request_state u.moored.disk)
   pub ahead : IsAhead durable accepted u.moored.unit.life
   pub given : IsPartOf handed (outputs_of settled)
   pub held : IsPartOf (handed ++ map description_of u.outputs) (outputs_of durable)
-  pub moments : (k : ℕ) → k ≤ length u.moored.reading.disk.requests → (image : ℕ → List ℕ) → IsImage (moment_of u.moored.reading.disk k) image
+  pub moments : (k : ℕ) → k ≤ length u.moored.disk.requests → (image : ℕ → List ℕ) → IsImage (moment_of u.moored.disk k) image
       → DescribesEither whole_from sectors settled durable image
-  pub there : IsThere medium (moment_of u.moored.reading.disk carried)
-  pub within : carried ≤ length u.moored.reading.disk.requests
+  pub there : IsThere medium (moment_of u.moored.disk carried)
+  pub within : carried ≤ length u.moored.disk.requests
   pub said : u.done ≤ carried
 
 module _ {whole_from sectors : ℕ} {handed : List EtcsOutput} {medium : Platter} {carried : ℕ} {before : Relayed} (floats : Floats whole_from sectors handed medium carried before) where
@@ -51,15 +51,15 @@ module _ {whole_from sectors : ℕ} {handed : List EtcsOutput} {medium : Platter
     each = λ image is. ⊎_elim
         (λ (describes : Describes whole_from sectors floats.settled image). let so : HasAll whole_from sectors floats.settled image = (floats.settled, [], refl, describes) in so)
         (λ (describes : Describes whole_from sectors floats.durable image). let so : HasAll whole_from sectors floats.settled image = (floats.durable, floats.more, floats.begins, describes) in so)
-        (floats.moments carried floats.within image (image_there medium (moment_of before.moored.reading.disk carried) image floats.there is));
+        (floats.moments carried floats.within image (image_there medium (moment_of before.moored.disk carried) image floats.there is));
   }
 
   -- the disk, the journal and what is held back are as they were
-  pub stays : (after : Relayed) → request_state after.moored.reading.disk ≡ request_state before.moored.reading.disk
+  pub stays : (after : Relayed) → request_state after.moored.disk ≡ request_state before.moored.disk
       → after.moored.unit.journal ≡ before.moored.unit.journal → after.outputs ≡ before.outputs → after.done ≤ carried
       → (accepted : List Event) → IsAhead floats.durable accepted after.moored.unit.life → Floats whole_from sectors handed medium carried after
   stays after same journal outputs said accepted ahead =
-      let Journal : JournalState → Type 0 = λ j. IsOpen j (account_of whole_from floats.durable) (request_state before.moored.reading.disk) in
+      let Journal : JournalState → Type 0 = λ j. IsOpen j (account_of whole_from floats.durable) (request_state before.moored.disk) in
       let Opened : State → Type 0 = λ s. IsOpen after.moored.unit.journal (account_of whole_from floats.durable) s in
       let Held : List Release → Type 0 = λ o. IsPartOf (handed ++ map description_of o) (outputs_of floats.durable) in
       let Moments : State → Type 0 = λ s. (k : ℕ) → k ≤ s.clock → (image : ℕ → List ℕ) → IsImage (s.at k) image → DescribesEither whole_from sectors floats.settled floats.durable image in
@@ -82,7 +82,7 @@ module _ {whole_from sectors : ℕ} {handed : List EtcsOutput} {medium : Platter
       }
 
   -- the next request is carried out
-  pub carries : (after : Platter) → carried < length before.moored.reading.disk.requests → IsThere after (moment_of before.moored.reading.disk (carried + 1))
+  pub carries : (after : Platter) → carried < length before.moored.disk.requests → IsThere after (moment_of before.moored.disk (carried + 1))
       → Floats whole_from sectors handed after (carried + 1) before
   carries after less there = let said = floats.said in record {
     size = floats.size;
@@ -102,9 +102,9 @@ module _ {whole_from sectors : ℕ} {handed : List EtcsOutput} {medium : Platter
   }
 
   -- a flush is prepared, where no request is left
-  pub prepares : length before.moored.reading.disk.requests ≡ 0 → (after : Relayed) → after.moored.reading.disk.sectors ≡ before.moored.reading.disk.sectors
-      → AtEachMoment (request_state before.moored.reading.disk) (request_state after.moored.reading.disk) (DescribesEither whole_from before.moored.reading.disk.sectors floats.durable floats.accepted)
-      → IsOpen after.moored.unit.journal (account_of whole_from floats.accepted) (request_state after.moored.reading.disk)
+  pub prepares : length before.moored.disk.requests ≡ 0 → (after : Relayed) → after.moored.disk.sectors ≡ before.moored.disk.sectors
+      → AtEachMoment (request_state before.moored.disk) (request_state after.moored.disk) (DescribesEither whole_from before.moored.disk.sectors floats.durable floats.accepted)
+      → IsOpen after.moored.unit.journal (account_of whole_from floats.accepted) (request_state after.moored.disk)
       → IsAhead floats.accepted floats.accepted after.moored.unit.life → after.outputs ≡ before.moored.unit.life.pairs → after.done ≡ 0
       → Floats whole_from sectors handed medium carried after
   prepares none after same each opened ahead outputs undone =
@@ -133,13 +133,13 @@ module _ {whole_from sectors : ℕ} {handed : List EtcsOutput} {medium : Platter
       }
 
   -- what is held back is handed out, and the list is empty
-  pub releases : length before.moored.reading.disk.requests ≤ before.done → (after : Relayed) → after.moored.reading.disk.requests ≡ []
-      → after.moored.reading.disk.sectors ≡ before.moored.reading.disk.sectors → StaysOpen before.moored after.moored
+  pub releases : length before.moored.disk.requests ≤ before.done → (after : Relayed) → after.moored.disk.requests ≡ []
+      → after.moored.disk.sectors ≡ before.moored.disk.sectors → StaysOpen before.moored after.moored
       → after.moored.unit.life ≡ before.moored.unit.life → after.outputs ≡ [] → after.done ≡ 0
       → Floats whole_from sectors (handed ++ map description_of before.outputs) medium 0 after
   releases all after none same (closed, shut, contents, opened) life outputs undone =
-      let disk : Requesting = before.moored.reading.disk in
-      let next : Requesting = after.moored.reading.disk in
+      let disk : Requesting = before.moored.disk in
+      let next : Requesting = after.moored.disk in
       let within = floats.within in
       let said = floats.said in
       let end : carried ≡ length disk.requests = omega (arith, within, said, all) in

@@ -13,7 +13,7 @@ use Rattle.unit_calls.specs.PowerUps.{before_any, IsUp}
 -- a unit that came of it was powered up over what the medium held
 pub ups : (before : Opening) (reported : Result Going OpenError)
     → IfOk reported (λ g. OnOpen g (λ u. (u.outputs ≡ []) × (u.done ≡ 0) × (u.failed ≡ false)))
-    → IfOk reported (λ g. OnOpen g (λ u. u.moored.reading.disk.sectors ≡ before.disk.sectors))
+    → IfOk reported (λ g. OnOpen g (λ u. u.moored.disk.sectors ≡ before.disk.sectors))
     → ((medium : List ℕ) (whole_from : ℕ) (durable accepted : List Event) → IsGoing medium before →
     IsReady whole_from durable accepted (medium_state medium before.disk.sectors) →
     IfOk reported (λ g. OnOpen g (λ u. Continued whole_from durable accepted before.cold (medium_state medium before.disk.sectors) u.moored)))

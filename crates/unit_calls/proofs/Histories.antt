@@ -1,28 +1,24 @@
 -- What stays so, whatever happens.
-use Rattle.std.proofs.Common.{◌≡◌, ◌⊎◌, inl, inr, ℕ, ◌+◌, false, List, [], ◌∷◌, ◌++◌, length, map, take, Option, Some, None, Result, Ok, Err, refl, sym, ◌∙◌, ap, subst, arith}
-use Rattle.std.specs.Prelude.{◌==◌, ◌*◌, ◌/◌, MatchOption}
+use Rattle.std.proofs.Common.{◌≡◌, ◌⊎◌, inl, inr, ℕ, ◌+◌, false, List, [], ◌∷◌, ◌++◌, map, take, Option, Some, None, refl, sym, ◌∙◌, ap, subst, arith}
 use Rattle.std.proofs.lemmas.List.{append-nil}
 use Rattle.disk.specs.State.{State, Platter, contents_of, IsImage}
 use Rattle.events.specs.declared.input.Event.{Event}
 use Rattle.events.specs.declared.input.Event.TheVariants.{PowerUp}
 use Rattle.events.specs.declared.input.Input.{Input}
-use Rattle.c_numbers.specs.Numbers.{this_abi}
 use Rattle.request_disk.specs.Requesting.{Requesting}
 use Rattle.mode_table.specs.declared.statuses.Cold.{Cold}
 use Rattle.unit_start.specs.Lives.{Describes, DescribesEither, IsReady, IsOfOpening}
-use Rattle.unit_start.specs.Releases.{Release}
-use Rattle.unit_start.specs.declared.errors.OpenError.{OpenError}
+use Rattle.unit_start.specs.Releases.{Release, nothing_released}
 use Rattle.unit_start.proofs.Opening.{ready_after}
 use Rattle.relayed_unit.specs.Relayed.{Relayed, Continued}
-use Rattle.unit_calls.specs.Handles.{OnHandle, OnHandleInto, Takes, Prepares, Says, Fails, Handing, Releases, IsPoweredUp, IsLeft, PowersUpInto, OpensFrom}
-use Rattle.unit_calls.specs.Histories.{Scene, Happening, Opening, Finishing, Taking, Preparing, Providing, Carrying, Saying, Failing, Releasing, Asking, Closing, Cutting, IsQuiet, Happens, AllHappen, IsPartOf, outputs_of, HasAll, AreOnMedium, HandedOutIsOnMedium}
-use Rattle.unit_calls.specs.Mediums.{at_rest, carried_out, IsReadFrom}
+use Rattle.unit_calls.specs.Handles.{OnHandle, OnHandleInto, Takes, Prepares, Says, Fails, Handing, Releases}
+use Rattle.unit_calls.specs.Histories.{Scene, Happening, Finishing, Taking, Preparing, Providing, Carrying, Saying, Failing, Releasing, Asking, Closing, Cutting, IsQuiet, Happens, AllHappen, IsPartOf, outputs_of, HasAll, AreOnMedium, HandedOutIsOnMedium}
+use Rattle.unit_calls.specs.Mediums.{at_rest, carried_out}
 use Rattle.unit_calls.specs.Outputs.{description_of}
 use Rattle.unit_calls.specs.PowerUps.{before_any, IsUp}
 use Rattle.unit_calls.specs.Requests.{IfElse, Description, DescribesRequest}
 use Rattle.unit_calls.specs.Sectors.{Provides}
 use Rattle.unit_calls.specs.Statuses.{is_done}
-use Rattle.unit_calls.specs.ColdNumbers.{cold_by}
 use Rattle.unit_calls.specs.declared.handle.Opened.{Opened}
 use Rattle.unit_calls.specs.declared.outputs.EtcsOutput.{EtcsOutput}
 use Rattle.unit_calls.specs.declared.status.Status.{Status}
@@ -30,7 +26,7 @@ use Rattle.unit_calls.specs.declared.status.Status.TheVariants as a_status
 use Rattle.unit_calls.proofs.Carrying.{IsThere, carried_there}
 use Rattle.unit_calls.proofs.Floating.{moment_of, Floats, on_medium, carries}
 use Rattle.unit_calls.proofs.Parts.{part_longer}
-use Rattle.unit_calls.proofs.Alongside.{Kept, takes_on, prepares_on, provides_on, says_on, fails_on, where_false, either_way, releases_on}
+use Rattle.unit_calls.proofs.Alongside.{Kept, takes_on, prepares_on, provides_on, says_on, fails_on, where_false, releases_on}
 
 -- ---- a power-up
 
@@ -64,7 +60,7 @@ module _ (whole_from sectors : ℕ) (handed : List EtcsOutput) (medium : Platter
   floats_up : (u : Relayed) (carried : ℕ) → carried ≡ 0 → IsUp begin cold u → Floats whole_from sectors handed medium carried u
   floats_up u carried begins its =
       let up : Continued whole_from held_list.0 held_list.0 cold begin u.moored = its.up whole_from held_list.0 held_list.0 ready in
-      let disk : Requesting = u.moored.reading.disk in
+      let disk : Requesting = u.moored.disk in
       let found : List Event = up.found in
       let recorded_cold : Cold = up.power_up_cold in
       let is : found ≡ held_list.0 = found_all found up.opens.found_is in
@@ -94,33 +90,11 @@ module _ (whole_from sectors : ℕ) (handed : List EtcsOutput) (medium : Platter
         said = omega (arith, undone);
       }
 
-  stands_on : (u : Relayed) (after : Option Opened) (carried : ℕ) (status : Status) → carried ≡ 0 → IsUp begin cold u → IsLeft (Ok u) after status
+  stands_on : (u : Relayed) (after : Option Opened) (carried : ℕ) → carried ≡ 0 → IsUp begin cold u → after ≡ Some (record { unit = u; last = nothing_released })
       → Kept whole_from sectors after handed medium carried
-  stands_on u None carried status begins its left = on
-  stands_on u (Some opened) carried status begins its left =
-      let U : Relayed → Type 0 = λ v. Floats whole_from sectors handed medium carried v in
-      subst U (sym left.1) (floats_up u carried begins its)
-
-module _ (whole_from sectors : ℕ) (handed : List EtcsOutput) (medium : Platter) (image : List ℕ) (read : IsReadFrom sectors image medium) (on : AreOnMedium whole_from sectors handed medium) where
-  left_on : (cold : Cold) (reported : Result Relayed OpenError) (after : Option Opened) (carried : ℕ) (status : Status) → carried ≡ 0 → IsPoweredUp image cold reported → IsLeft reported after status
-      → Kept whole_from sectors after handed medium carried
-  left_on cold (Ok u) after carried status begins its left =
-      stands_on whole_from sectors handed medium (take (512 * (length image / 512)) image) (length image / 512) cold read.size read.contents read.synced on u after carried status begins
-      (record {
-        fresh = its.fresh;
-        sectors = its.powers_up.counted.sectors;
-        up = λ from durable accepted ready. its.powers_up.up from durable accepted refl ready;
-      })
-      left
-  left_on cold (Err e) None carried status begins its left = on
-  left_on cold (Err e) (Some opened) carried status begins its left = absurd left
-
-  closed_on : (after : Option Opened) (carried : ℕ) → after ≡ None → Kept whole_from sectors after handed medium carried
-  closed_on after carried is = let K : Option Opened → Type 0 = λ o. Kept whole_from sectors o handed medium carried in subst K (sym is) on
-
-  powers_on : (cold : Option Cold) (after : Option Opened) (carried : ℕ) (status : Status) → carried ≡ 0 → PowersUpInto image cold after status → Kept whole_from sectors after handed medium carried
-  powers_on None after carried status begins its = closed_on after carried its.1
-  powers_on (Some cold) after carried status begins (reported, up, left) = left_on cold reported after carried status begins up left
+  stands_on u after carried begins its left =
+      let K : Option Opened → Type 0 = λ o. Kept whole_from sectors o handed medium carried in
+      subst K (sym left) (floats_up u carried begins its)
 
 -- what is left where power is lost
 left_over : (whole_from sectors : ℕ) (handed : List EtcsOutput) (medium : Platter) (image : ℕ → List ℕ) → IsImage medium image → AreOnMedium whole_from sectors handed medium → AreOnMedium whole_from sectors handed (at_rest image)
@@ -181,23 +155,10 @@ module _ (whole_from sectors : ℕ) where
     released_in handed' carried' h (Some before) None its out kept = absurd its
     released_in handed' carried' h (Some before) (Some after) its out kept = releases_on handed' carried' before after h out kept its
 
-    opened_in : (carried' : ℕ) (image : List ℕ) (cold abi : ℕ) (old new : Option Opened) (status : Status)
-        → OpensFrom image cold abi old new status → (old ≡ None → IsReadFrom sectors image medium) → MatchOption old (carried' ≡ 0) (λ opened. carried' ≡ carried)
-        → KeptBy old → Kept whole_from sectors new handed medium carried'
-    opened_in carried' image cold abi None new status its read begins kept =
-        either_way (abi == this_abi) (PowersUpInto image (cold_by cold) new status) ((status ≡ a_status.OtherAbi) × (new ≡ None)) (Kept whole_from sectors new handed medium carried')
-        (λ up. powers_on whole_from sectors handed medium image (read refl) kept (cold_by cold) new carried' status begins up)
-        (λ other. closed_on whole_from sectors handed medium image (read refl) kept new carried' other.1)
-        its
-    opened_in carried' image cold abi (Some before) new status its read begins kept =
-        let K : Option Opened → Type 0 = λ o. Kept whole_from sectors o handed medium carried' in
-        let C : ℕ → Type 0 = λ n. Floats whole_from sectors handed medium n before.unit in
-        subst K (sym its.1) (subst C (sym begins) kept)
-
     carried_in : (opened : Opened) (t : Description) → DescribesRequest carried opened t → t.status ≡ a_status.Done → Floats whole_from sectors handed medium carried opened.unit
         → Floats whole_from sectors handed (carried_out t.reported t.bytes medium) (carried + 1) opened.unit
     carried_in opened t (found, at, whole, reported) done floats =
-        let disk : Requesting = opened.unit.moored.reading.disk in
+        let disk : Requesting = opened.unit.moored.disk in
         let so = carried_there disk.sectors disk.medium disk.written disk.requests carried t done medium floats.there found at whole reported in
         carries floats (carried_out t.reported t.bytes medium) so.0 so.1
 
@@ -211,13 +172,10 @@ module _ (whole_from sectors : ℕ) where
   on_quiet before after So status its quiet on kept = quiet_on before after quiet (on_handle before.handed before.medium before.carried So status on before.handle after.handle its kept)
 
   step : (one : Happening) (before after : Scene) → KeptIn before → Happens sectors one before after → KeptIn after
-  step (Opening image cold abi) before after kept (status, opens, read, medium, handed, begins) =
-      as_it_was after.handle medium refl handed
-      (opened_in before.handed before.medium before.carried after.carried image cold abi before.handle after.handle status opens read begins kept)
-  step (Finishing bytes cold) before after kept (unit, status, its, left, none, rest, medium, handed, begins) =
+  step (Finishing bytes cold) before after kept (unit, its, left, none, rest, medium, handed, begins) =
       let B : Option Opened → Type 0 = λ o. Kept whole_from sectors o before.handed before.medium before.carried in
       as_it_was after.handle medium refl handed
-      (stands_on whole_from sectors before.handed before.medium bytes sectors cold refl rest.contents rest.synced (subst B none kept) unit after.handle after.carried status begins its left)
+      (stands_on whole_from sectors before.handed before.medium bytes sectors cold refl rest.contents rest.synced (subst B none kept) unit after.handle after.carried begins its left)
   step (Taking input) before after kept (status, its, quiet) =
       on_quiet before after (Takes input) status its quiet (λ was is takes floats. input_on before.handed before.medium before.carried input was is status takes floats) kept
   step Preparing before after kept (status, its, quiet) =

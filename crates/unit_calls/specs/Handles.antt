@@ -1,32 +1,23 @@
 -- What the calls do to what a handle holds (this project's profile): None where no unit is open. `reported` is what the
 -- call of `RelayedUnit` answered, the status its number.
-use Rattle.std.specs.Prelude.{◌≡◌, ◌↔◌, ℕ, ◌+◌, ◌/◌, ◌<◌, ◌≤◌, ◌==◌, ◌∷◌, ◌&&◌, ◌||◌, not, is_some, nat_lt, Bool, true, false, if◌then◌else◌, List, [], length, Option, Some, None, Result, Ok, Err, IsOk, IfOk, IfErr, OnOk, OnErr, MatchOption, ⊤}
-use Rattle.disk.specs.State.{contents_of}
+use Rattle.std.specs.Prelude.{◌≡◌, ◌↔◌, ℕ, ◌+◌, ◌<◌, ◌≤◌, ◌∷◌, ◌&&◌, ◌||◌, not, is_some, nat_lt, Bool, true, if◌then◌else◌, List, [], length, Option, Some, None, Result, Err, IsOk, IfErr, OnOk, OnErr, MatchOption, ⊤}
 use Rattle.events.specs.Limits.{most_pending}
 use Rattle.events.specs.declared.input.Event.{Event}
 use Rattle.events.specs.declared.input.Event.TheVariants.{Input as an_input}
 use Rattle.events.specs.declared.input.Input.{Input}
 use Rattle.events.specs.declared.step.Step.TheVariants.{Accept}
-use Rattle.c_numbers.specs.Numbers.{this_abi}
-use Rattle.request_disk.specs.Requesting.{copy_of, request_state}
-use Rattle.mode_table.specs.declared.statuses.Cold.{Cold}
-use Rattle.unit_start.specs.Answers.{is_device}
 use Rattle.onboard.specs.Answers.{HasSpace}
 use Rattle.unit_start.specs.Events.{IsAhead}
-use Rattle.unit_start.specs.PowersUp.{IsAnswerTo}
-use Rattle.unit_start.specs.Releases.{nothing_released}
 use Rattle.onboard.specs.Progress.{go_on}
 use Rattle.onboard.specs.declared.errors.AcceptError.{AcceptError}
 use Rattle.onboard.specs.declared.errors.AcceptError.TheVariants as an_accept
-use Rattle.unit_start.specs.declared.errors.OpenError.{OpenError}
 use Rattle.relayed_unit.specs.LifeNow.{DescribesLife}
-use Rattle.relayed_unit.specs.Relayed.{Relayed, list_of, requests_of, input_refusal, progress_in, release_refusal, prepare_refusal, prepare_failed, wants_gate, IsFlushed, IsLeftBy, StaysOpen, PoweredUp, WantsNothing}
+use Rattle.relayed_unit.specs.Relayed.{Relayed, list_of, requests_of, input_refusal, progress_in, release_refusal, prepare_refusal, prepare_failed, IsFlushed, IsLeftBy, StaysOpen, WantsNothing}
 use Rattle.relayed_unit.specs.declared.errors.PrepareError.{PrepareError}
 use Rattle.relayed_unit.specs.declared.life_now.LifeNow.{LifeNow}
 use Rattle.unit_calls.specs.Outputs.{description_of, last_of, AreHanded}
 use Rattle.unit_calls.specs.Requests.{IfElse}
-use Rattle.unit_calls.specs.Statuses.{of_open, of_accept, of_prepare, of_release}
-use Rattle.unit_calls.specs.ColdNumbers.{cold_by}
+use Rattle.unit_calls.specs.Statuses.{of_accept, of_prepare, of_release}
 use Rattle.unit_calls.specs.declared.outputs.EtcsOutput.{EtcsOutput}
 use Rattle.unit_calls.specs.declared.outputs.EtcsState.{EtcsState}
 use Rattle.unit_calls.specs.declared.handle.Opened.{Opened}
@@ -57,7 +48,7 @@ pub record Accepts (input : Input) (before after : Relayed) (reported : Result �
   -- a refusal changes nothing
   pub refused : OnErr reported (after ≡ before)
   -- the disk is as it was
-  pub copy : (after.moored.reading ≡ before.moored.reading) × (after.moored.unit.journal ≡ before.moored.unit.journal)
+  pub disk : (after.moored.disk ≡ before.moored.disk) × (after.moored.unit.journal ≡ before.moored.unit.journal)
   -- what the next refusal goes by has gone on by this input
   pub gone_on : OnOk reported (progress_in after.moored ≡ go_on (progress_in before.moored) (Accept input))
   -- the event is then pending, after all that were accepted
@@ -86,12 +77,8 @@ pub record IsPrepared (before after : Relayed) (reported : Result ⊤ PrepareErr
   pub held : OnErr reported ((after.outputs ≡ before.outputs) × (after.done ≡ before.done))
   -- and it leaves the unit and the disk as they were, but that a sector may be wanted
   pub undone : IfErr reported (λ e. IsLeftBy e before.moored after.moored)
-  -- over a copy of the medium none is
-  pub whole : before.moored.reading.disk.known ≡ None → wants_gate before.moored ≡ false
-  -- and it stays one
-  pub known : before.moored.reading.disk.known ≡ None → after.moored.reading.disk.known ≡ None
   -- where nothing was pending there is no request
-  pub nothing : OnOk reported (length before.moored.unit.life.records ≡ 0 → after.moored.reading ≡ before.moored.reading)
+  pub nothing : OnOk reported (length before.moored.unit.life.records ≡ 0 → after.moored.disk ≡ before.moored.disk)
   -- where something was pending no sector is wanted then
   pub wants_nothing : OnOk reported (0 < length before.moored.unit.life.records → WantsNothing after.moored)
 
@@ -120,16 +107,16 @@ pub record IsReleased (before after : Relayed) : Type 0 where
   -- nothing is held back any more, no request is left, and so none is done
   pub emptied : (after.outputs ≡ []) × (after.done ≡ 0) × (list_of after.moored ≡ [])
   -- no sector is wanted, where there were requests; else the unit and its disk are as they were
-  pub wants_nothing : 0 < length before.moored.reading.disk.requests → WantsNothing after.moored
-  pub idle : length before.moored.reading.disk.requests ≡ 0 → after.moored ≡ before.moored
+  pub wants_nothing : 0 < length before.moored.disk.requests → WantsNothing after.moored
+  pub idle : length before.moored.disk.requests ≡ 0 → after.moored ≡ before.moored
   -- the medium failed no more than before
   pub failed : after.failed ≡ before.failed
   -- the unit is as it was: nothing was taken, and nothing was put on the disk
   pub unit : after.moored.unit ≡ before.moored.unit
   -- the medium has as many sectors as before
-  pub sectors : after.moored.reading.disk.sectors ≡ before.moored.reading.disk.sectors
+  pub sectors : after.moored.disk.sectors ≡ before.moored.disk.sectors
   -- and as many of them are known
-  pub known : after.moored.reading.disk.known ≡ before.moored.reading.disk.known
+  pub known : after.moored.disk.known ≡ before.moored.disk.known
   -- no sector of the medium is open; the disk holds what it held, and the journal stands over it as before
   pub stands : StaysOpen before.moored after.moored
 
@@ -162,7 +149,7 @@ Releases before after h = IfElse (nat_lt (length h.places) most_pending) (HandsN
 
 -- the same of a unit that hasn't failed: RequestsOwed where a sector has to be read first
 abbrev pub ReleasesAfterReads : Opened → Opened → Handing → Type 0
-ReleasesAfterReads before after h = IfElse (is_some before.unit.moored.reading.disk.wanted && not before.unit.failed)
+ReleasesAfterReads before after h = IfElse (is_some before.unit.moored.disk.wanted && not before.unit.failed)
     (HandsNothing a_status.RequestsOwed before after h) (Releases before after h)
 
 -- how far a unit is, as C sees it, where this is known of its life
@@ -182,38 +169,3 @@ state_of opened life = record {
 -- how far a unit is, and what is known of its life
 abbrev pub DescribesState : Opened → EtcsState → Type 0
 DescribesState opened state = (life : LifeNow) × DescribesLife opened.unit.moored.unit.life life × (state ≡ state_of opened life)
-
--- ---- opening and closing
-
--- what `RelayedUnit::open` promises of an answer, on a copy of these bytes
-pub record IsPoweredUp (image : List ℕ) (cold : Cold) (reported : Result Relayed OpenError) : Type 0 where
-  -- nothing is held back, and nothing is done
-  pub fresh : IfOk reported (λ u. (u.outputs ≡ []) × (u.done ≡ 0) × (u.failed ≡ false))
-  -- it is powered up over the copy, which has the whole sectors of the bytes
-  pub powers_up : IfOk reported (λ u. PoweredUp (request_state (copy_of image)) cold u.moored)
-  -- the copy holds all of them
-  pub whole : IfOk reported (λ u. u.moored.reading.disk.known ≡ None)
-  -- no sector is wanted
-  pub wants_nothing : IfOk reported (λ u. WantsNothing u.moored)
-  -- each refusal has its cause, and each cause its refusal
-  pub answers : IsAnswerTo (length image / 512) (contents_of (request_state (copy_of image))) reported
-  -- the copy never runs out of memory
-  pub space : IfErr reported (λ e. is_device e ≡ false)
-
--- the unit is in the handle, or there was no memory for it there; a refusal leaves none
-abbrev pub IsLeft : Result Relayed OpenError → Option Opened → Status → Type 0
-IsLeft (Ok u) None status = status ≡ a_status.OpenNoMemory
-IsLeft (Ok u) (Some opened) status = (status ≡ a_status.Done) × (opened.unit ≡ u) × (opened.last ≡ nothing_released)
-IsLeft (Err e) None status = status ≡ of_open e
-IsLeft (Err e) (Some opened) status = ⊥
-
--- a power-up with this cold movement value, where there is one, into a handle that has no unit
-abbrev pub PowersUpInto : List ℕ → Option Cold → Option Opened → Status → Type 0
-PowersUpInto image None after status = (status ≡ a_status.OutOfRange) × (after ≡ None)
-PowersUpInto image (Some cold) after status = (reported : Result Relayed OpenError) × IsPoweredUp image cold reported × IsLeft reported after status
-
--- the same into any handle: one that is open stays as it is
-abbrev pub OpensFrom : List ℕ → ℕ → ℕ → Option Opened → Option Opened → Status → Type 0
-OpensFrom image cold abi (Some before) after status = (status ≡ a_status.IsOpen) × (after ≡ Some before)
-OpensFrom image cold abi None after status =
-    IfElse (abi == this_abi) (PowersUpInto image (cold_by cold) after status) ((status ≡ a_status.OtherAbi) × (after ≡ None))

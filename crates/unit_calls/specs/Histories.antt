@@ -3,23 +3,24 @@
 -- oldest first.
 
 -- Taken for granted: each call meets its contract (`OnHandle`, `Takes`, `Prepares`, ..), which is proved; and what the
--- head of `include/etcs_unit.h` says that the caller owes. He hands in what he read from his medium, a sector as it is
--- there when he hands it in, carries out the requests in their order, as they are reported, says of none that it is
--- done before it is, and nothing else writes there.
+-- head of `include/etcs_unit.h` says that the caller owes. He hands in a sector as it is on his medium when he hands it
+-- in, carries out the requests in their order, as they are reported, says of none that it is done before it is, and
+-- nothing else writes there.
 
 -- A call is one of the steps below, or two of them: `etcs_unit_provide` of an open unit is Providing, and where a sector was
 -- wanted Preparing after it (`ProvidesOn`). `etcs_unit_begin` and `etcs_unit_provide` of a power-up are Finishing where
--- they leave a unit (`GoesOn`: `IsGoneOn`, `IsLeftOn`), else Asking.
-use Rattle.std.specs.Prelude.{◌≡◌, ◌⊎◌, ℕ, ◌+◌, ◌≤◌, List, [], ◌∷◌, ◌++◌, length, map, take, Option, Some, None, MatchOption, Ok}
+-- they leave a unit (`GoesOn`: `IsGoneOn`, `IsLeftOn`), else Asking. `etcs_unit_open` is these calls, one after the other.
+use Rattle.std.specs.Prelude.{◌≡◌, ◌⊎◌, ℕ, ◌+◌, ◌≤◌, List, [], ◌∷◌, ◌++◌, length, map, take, Option, Some, None}
 use Rattle.disk.specs.State.{Platter, IsImage}
 use Rattle.events.specs.declared.input.Event.{Event}
 use Rattle.events.specs.declared.input.Input.{Input}
 use Rattle.mode_table.specs.declared.statuses.Cold.{Cold}
 use Rattle.unit_start.specs.Events.{pairs_of}
 use Rattle.unit_start.specs.Lives.{Describes}
+use Rattle.unit_start.specs.Releases.{nothing_released}
 use Rattle.relayed_unit.specs.Relayed.{Relayed}
-use Rattle.unit_calls.specs.Handles.{OnHandle, OnHandleInto, Takes, Prepares, Says, Fails, Handing, Releases, OpensFrom, IsLeft}
-use Rattle.unit_calls.specs.Mediums.{at_rest, carried_out, IsAtRest, IsReadFrom}
+use Rattle.unit_calls.specs.Handles.{OnHandle, OnHandleInto, Takes, Prepares, Says, Fails, Handing, Releases}
+use Rattle.unit_calls.specs.Mediums.{at_rest, carried_out, IsAtRest}
 use Rattle.unit_calls.specs.Outputs.{description_of}
 use Rattle.unit_calls.specs.PowerUps.{before_any, IsUp}
 use Rattle.unit_calls.specs.Requests.{IfElse, Description, DescribesRequest}
@@ -43,8 +44,6 @@ pub record Scene : Type 0 where
 
 -- What may happen next.
 pub data Happening : Type 0 where
-  -- `etcs_unit_open` with these bytes, word and number of the interface
-  Opening : List ℕ → ℕ → ℕ → Happening
   -- a power-up that leads to a unit, with this cold movement value, over a medium of these bytes
   Finishing : List ℕ → Cold → Happening
   -- a call that takes an input; None stands for numbers outside their limits
@@ -73,10 +72,6 @@ pub data Happening : Type 0 where
 abbrev pub IsQuiet : Scene → Scene → Type 0
 IsQuiet before after = (after.medium ≡ before.medium) × (after.carried ≡ before.carried) × (after.handed ≡ before.handed)
 
--- A unit that is opened begins with a list of which nothing is carried out.
-abbrev pub BeginsAnew : Scene → Scene → Type 0
-BeginsAnew before after = MatchOption before.handle (after.carried ≡ 0) (λ opened. after.carried ≡ before.carried)
-
 -- what a release hands out is after what was handed out before, and nothing of the next list is carried out
 abbrev pub IsHandedOut : Handing → Scene → Scene → Type 0
 IsHandedOut h before after = IfElse (is_done h.status)
@@ -85,13 +80,9 @@ IsHandedOut h before after = IfElse (is_done h.status)
 
 -- it happened to a caller whose medium has so many sectors
 abbrev pub Happens : ℕ → Happening → Scene → Scene → Type 0
-Happens sectors (Opening image cold abi) before after =
-    (status : Status) × OpensFrom image cold abi before.handle after.handle status
-    × (before.handle ≡ None → IsReadFrom sectors image before.medium)
-    × (after.medium ≡ before.medium) × (after.handed ≡ before.handed) × BeginsAnew before after
 Happens sectors (Finishing bytes cold) before after =
-    (unit : Relayed) × (status : Status) × IsUp (before_any bytes sectors) cold unit × IsLeft (Ok unit) after.handle status
-    × (before.handle ≡ None) × IsAtRest sectors bytes before.medium
+    (unit : Relayed) × IsUp (before_any bytes sectors) cold unit
+    × (after.handle ≡ Some (record { unit = unit; last = nothing_released })) × (before.handle ≡ None) × IsAtRest sectors bytes before.medium
     × (after.medium ≡ before.medium) × (after.handed ≡ before.handed) × (after.carried ≡ 0)
 Happens sectors (Taking input) before after =
     (status : Status) × OnHandle before.handle after.handle status (Takes input) × IsQuiet before after

@@ -1,7 +1,6 @@
 -- What a caller does with his medium (this project's profile). Sectors have 512 bytes and are numbered from 0.
-use Rattle.std.specs.Prelude.{◌≡◌, ℕ, ◌-◌, ◌*◌, ◌/◌, ◌==◌, ◌&&◌, nat_le, nat_lt, Bool, true, false, if◌then◌else◌, List, length}
-use Rattle.disk.specs.State.{Platter, contents_of, sector_of}
-use Rattle.request_disk.specs.Requesting.{copy_of, request_state}
+use Rattle.std.specs.Prelude.{◌≡◌, ℕ, ◌-◌, ◌*◌, ◌==◌, ◌&&◌, nat_le, nat_lt, Bool, true, false, if◌then◌else◌, List, length}
+use Rattle.disk.specs.State.{Platter, sector_of}
 use Rattle.unit_calls.specs.declared.call_values.EtcsRequest.{EtcsRequest}
 
 -- whether a write, as it is reported, is of sector s
@@ -28,14 +27,4 @@ carried_out reported bytes medium = if reported.kind == 1 then written_on report
 pub record IsAtRest (sectors : ℕ) (bytes : List ℕ) (medium : Platter) : Type 0 where
   pub size : length bytes ≡ 512 * sectors
   pub contents : (s : ℕ) → medium.contents s ≡ sector_of bytes s
-  pub synced : (s : ℕ) → medium.is_open s ≡ false
-
--- The bytes are what was read from a medium of so many sectors, of which none is open: power was lost since the last
--- write, or it was synced.
-pub record IsReadFrom (sectors : ℕ) (image : List ℕ) (medium : Platter) : Type 0 where
-  -- all its sectors were read
-  pub size : length image / 512 ≡ sectors
-  -- each as it is
-  pub contents : (s : ℕ) → medium.contents s ≡ contents_of (request_state (copy_of image)) s
-  -- and none is open
   pub synced : (s : ℕ) → medium.is_open s ≡ false

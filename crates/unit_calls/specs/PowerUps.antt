@@ -16,7 +16,7 @@ pub record IsUp (begin : State) (cold : Cold) (u : Relayed) : Type 0 where
   -- nothing is held back, and nothing is done
   pub fresh : (u.outputs ≡ []) × (u.done ≡ 0) × (u.failed ≡ false)
   -- its disk has as many sectors
-  pub sectors : u.moored.reading.disk.sectors ≡ begin.sectors
+  pub sectors : u.moored.disk.sectors ≡ begin.sectors
   -- after each number of requests each image is one that a power-up may leave of what the disk held
   pub up : (whole_from : ℕ) (durable accepted : List Event) → IsReady whole_from durable accepted begin
       → Continued whole_from durable accepted cold begin u.moored

@@ -71,4 +71,4 @@ DescribesRequest index opened t = (found : Option Call) × IsAt index (list_of o
 -- what is to be done next is reported: to read the sector that is wanted, or else the first request of the list that isn't
 -- done
 abbrev pub DescribesNext : Opened → Description → Type 0
-DescribesNext opened t = MatchOption opened.unit.moored.reading.disk.wanted (DescribesRequest opened.unit.done opened t) (λ sector. Reads sector t)
+DescribesNext opened t = MatchOption opened.unit.moored.disk.wanted (DescribesRequest opened.unit.done opened t) (λ sector. Reads sector t)

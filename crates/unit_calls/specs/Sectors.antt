@@ -19,12 +19,12 @@ is_sector_of opened sector bytes = (length bytes == 512) && nat_lt sector (secto
 pub record IsProvided (sector : ℕ) (bytes : List ℕ) (before after : Opened) : Type 0 where
   -- the disk has the sector, and the unit is as it was
   pub exact : (after.unit.moored.unit ≡ before.unit.moored.unit)
-      × (after.unit.moored.reading.disk ≡ with_sector sector bytes before.unit.moored.reading.disk)
+      × (after.unit.moored.disk ≡ with_sector sector bytes before.unit.moored.disk)
   -- the sector is known then
-  pub known : knows sector after.unit.moored.reading.disk ≡ true
+  pub known : knows sector after.unit.moored.disk ≡ true
   -- where its bytes are what the medium holds, the journal stands as before
-  pub same : bytes ≡ contents_of (request_state before.unit.moored.reading.disk) sector
-      → request_state after.unit.moored.reading.disk ≡ request_state before.unit.moored.reading.disk
+  pub same : bytes ≡ contents_of (request_state before.unit.moored.disk) sector
+      → request_state after.unit.moored.disk ≡ request_state before.unit.moored.disk
   -- what is held back stays, and so does what was said of the requests
   pub held : (after.unit.outputs ≡ before.unit.outputs) × (after.unit.done ≡ before.unit.done)
       × (after.unit.failed ≡ before.unit.failed) × (after.last ≡ before.last)
@@ -38,4 +38,4 @@ Provides sector bytes before after status = IfElse (is_sector_of before sector b
 -- a sector is handed in, and where one was wanted the flush goes on, whose status is reported then
 abbrev pub ProvidesOn : ℕ → List ℕ → Opened → Opened → Status → Type 0
 ProvidesOn sector bytes before after status = (given : Opened) × (provided : Status) × Provides sector bytes before given provided
-    × IfElse (is_some before.unit.moored.reading.disk.wanted && is_done provided) (Prepares given after status) ((status ≡ provided) × (after ≡ given))
+    × IfElse (is_some before.unit.moored.disk.wanted && is_done provided) (Prepares given after status) ((status ≡ provided) × (after ≡ given))

@@ -5,9 +5,9 @@ use Rattle.c_numbers.specs.Numbers.{this_abi}
 use Rattle.mode_table.specs.declared.statuses.Cold.{Cold}
 use Rattle.relayed_unit.specs.Openings.{Opening, initial, IsGoing}
 use Rattle.unit_calls.specs.ColdNumbers.{cold_by}
-use Rattle.unit_calls.specs.Contents.{OnUnit, OnUnitInto, unit_in, under_way}
+use Rattle.unit_calls.specs.Contents.{OnUnit, OnUnitInto, under_way}
 use Rattle.unit_calls.specs.Goings.{GoesOn}
-use Rattle.unit_calls.specs.Handles.{Fails, OpensFrom}
+use Rattle.unit_calls.specs.Handles.{Fails}
 use Rattle.unit_calls.specs.Openings.{DescribesRead, Provides}
 use Rattle.unit_calls.specs.Requests.{IfElse, Description, DescribesNext}
 use Rattle.unit_calls.specs.Sectors.{ProvidesOn}
@@ -28,11 +28,6 @@ Begins medium sectors (Some cold) after status = ((status ≡ a_status.OpenNoMem
 abbrev pub BeginsUnit : List ℕ → ℕ → ℕ → ℕ → Option Content → Option Content → Status → Type 0
 BeginsUnit medium sectors cold abi before after status = IfElse (is_some before) ((status ≡ a_status.IsOpen) × (after ≡ before))
     (IfElse (abi == this_abi) (Begins medium sectors (cold_by cold) after status) ((status ≡ a_status.OtherAbi) × (after ≡ None)))
-
--- a power-up over a copy; what is open or under way stays as it is
-abbrev pub OpensUnit : List ℕ → ℕ → ℕ → Option Content → Option Content → Status → Type 0
-OpensUnit image cold abi before after status = IfElse (is_some before) ((status ≡ a_status.IsOpen) × (after ≡ before))
-    (OpensFrom image cold abi None (unit_in after) status × (under_way after ≡ None))
 
 -- a sector is handed in: to the power-up that is under way, which goes on then, or else to the unit
 abbrev pub ProvidesTo : ℕ → List ℕ → Option Content → Option Content → Status → Type 0

@@ -45,7 +45,7 @@ pub use formatting::format_request_call;
 pub use handle::{Content, EtcsUnit, Opened};
 pub use inputs::EtcsTrainData;
 pub use laws::{format_empties, handed_out_is_on_medium, on_medium_is_held, power_up_ends};
-pub use opening::{unit_begin_call, unit_close_call, unit_open_call};
+pub use opening::{unit_begin_call, unit_close_call};
 pub use outputs::{EtcsOutput, EtcsState};
 pub use relaying::{
     done_call, prepare_call, release_call, state_call, unit_fail_call, unit_request_call,

@@ -1,9 +1,8 @@
-//! Powering up, at once or sector by sector, and closing.
+//! Powering up, sector by sector, and closing.
 ghost use Rattle.std.specs.Prelude.{◌≡◌, ◌*◌, ℕ, List, None, length};
-ghost use Rattle.unit_calls.specs.Contents.{closing, unit_in, under_way};
+ghost use Rattle.unit_calls.specs.Contents.{closing};
 ghost use Rattle.unit_calls.specs.Goings.{GoesOn, IsLeftOn};
-ghost use Rattle.unit_calls.specs.Handles.{PowersUpInto};
-ghost use Rattle.unit_calls.specs.Units.{BeginsUnit, Begins, OpensUnit};
+ghost use Rattle.unit_calls.specs.Units.{BeginsUnit, Begins};
 
 use crate::call_values::cold_of_number;
 use crate::handle::{Content, EtcsUnit, Opened, handle_of, taken};
@@ -11,52 +10,8 @@ use crate::status::{Status, of_open};
 use c_numbers::ABI;
 use mode_table::Cold;
 use onboard::{OpenError, Released};
-use relayed_unit::{Going, RelayedUnit, UnitOpening};
+use relayed_unit::{Going, UnitOpening};
 use std::alloc::Global;
-
-// Powers up into a handle that has nothing.
-fn power_up(alloc: Global, unit: &mut EtcsUnit, image: &[u8], cold: Option<Cold>) -> Status
-    requires { unit.old.raw.value ≡ None }
-    ensures opens { PowersUpInto image.now cold (unit_in unit.new.raw.value) result }
-    ensures no_power_up { under_way unit.new.raw.value ≡ None }
-{
-    let Some(cold) = cold else {
-        return Status::OutOfRange;
-    };
-    let opened = match RelayedUnit::open(alloc, image, cold) {
-        Ok(unit) => Opened {
-            unit,
-            last: Released::default(),
-        },
-        Err(error) => return of_open(error),
-    };
-    match Box::new(alloc, Content::Unit(opened)) {
-        Ok(content) => {
-            *unit = handle_of(content);
-            Status::Done
-        }
-        Err(_) => Status::OpenNoMemory,
-    }
-}
-
-/// Powers up on these sectors. Where a unit is open, or a power-up under way, nothing changes.
-pub fn unit_open_call(
-    alloc: Global,
-    unit: &mut EtcsUnit,
-    image: &[u8],
-    cold: u32,
-    abi: u32,
-) -> Status
-    ensures { OpensUnit image.now cold abi unit.old.raw.value unit.new.raw.value result }
-{
-    if unit.is_open() {
-        return Status::IsOpen;
-    }
-    if abi != ABI {
-        return Status::OtherAbi;
-    }
-    power_up(alloc, unit, image, cold_of_number(cold))
-}
 
 // Puts what came of going on into a handle that has nothing.
 fn leave(unit: &mut EtcsUnit, place: Box<Content>, reported: Result<Going, OpenError>) -> Status

@@ -1,4 +1,4 @@
-//! Handing in a sector of a medium that isn't copied.
+//! Handing in a sector of the medium.
 ghost use Rattle.std.specs.Prelude.{◌≡◌};
 ghost use Rattle.unit_calls.specs.Goings.{Resumes};
 ghost use Rattle.unit_calls.specs.Openings.{Provides as ProvidesOpening};

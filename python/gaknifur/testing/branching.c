@@ -6,7 +6,7 @@
 
 #define SLOTS 2u
 #define SECTORS (1u + (6u * SLOTS))
-#define MEMORY ETCS_MEMORY_BYTES(SLOTS, 4, 16, 16, 16)
+#define MEMORY ETCS_MEMORY_BYTES(4, 16, 16, 16)
 
 enum input_kind { POWER_UP, TELEGRAM, ODOMETER, CLOCK, ACTION, IDENTITY, RUNNING_NUMBER, TRAIN_DATA };
 
@@ -67,7 +67,9 @@ static uint32_t release(etcs_unit_output *newest) {
     uint32_t count, status;
     while ((status = etcs_unit_request(&now.unit, &request, bytes, sizeof bytes)) == ETCS_UNIT_OK) {
         carry_out(&request, bytes);
-        if ((status = etcs_unit_done(&now.unit)) != ETCS_UNIT_OK) {
+        status = request.kind != ETCS_REQUEST_READ ? etcs_unit_done(&now.unit)
+            : etcs_unit_provide(&now.unit, request.sector, now.medium + (request.sector * ETCS_UNIT_SECTOR), ETCS_UNIT_SECTOR);
+        if (status != ETCS_UNIT_OK) {
             break;
         }
     }

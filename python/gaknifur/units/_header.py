@@ -522,7 +522,6 @@ CALLS: dict[str, tuple[object, ...]] = {
     "etcs_version_": (c_char_p, c_uint64, POINTER(c_uint32)),
     "etcs_build_info_": (c_char_p, c_uint64, POINTER(c_uint32)),
     "etcs_unit_begin_": (POINTER(etcs_unit), c_uint64, c_uint32, c_uint32),
-    "etcs_unit_open_": (POINTER(etcs_unit), c_char_p, c_uint64, c_uint32, c_uint32),
     "etcs_unit_telegram_": (POINTER(etcs_unit), c_char_p, c_uint64),
     "etcs_unit_odometer_": (POINTER(etcs_unit), c_int64, c_uint32),
     "etcs_unit_clock_": (POINTER(etcs_unit), c_uint64),

@@ -5,7 +5,7 @@ use Rattle.disk.specs.State.{sector_of, contents_of}
 use Rattle.disk.specs.Record.{IsWithin}
 use Rattle.disk.specs.declared.record.Call.{Call}
 use Rattle.disk.proofs.Settling.{fresh_contents}
-use Rattle.request_disk.specs.Held.{AreHeld}
+use Rattle.request_disk.specs.Known.{IsHeld}
 use Rattle.request_disk.specs.Medium.{carried}
 use Rattle.request_disk.specs.Requests.{IsRequest}
 use Rattle.request_disk.specs.Requesting.{Requesting, request_state}
@@ -28,10 +28,12 @@ module _ (c : goal.After-clear-2) where
 pub invariant_of-self : goal.invariant_of-self
 invariant_of-self c =
     let m = c.self.inside in
-    let held : AreHeld m.sectors (carried (bytes c) m.medium.bytes (calls c)) c.carry-2.new.self = search rules in
+    let W : List ℕ → List Call → Type 0 = λ w l. All (IsHeld m.sectors (carried w m.medium.bytes l)) c.carry-2.new.known.items in
+    let raw : W c.deref-3.result.now c.deref-4.result.now = c.carry-2.ensures.held m.medium.bytes c.self.invariant.whole c.self.invariant.held in
+    let held : W (bytes c) (calls c) = subst (λ (w : List ℕ). W w (calls c)) c.deref-3.ensures.value (subst (λ (l : List Call). W c.deref-3.result.now l) c.deref-4.ensures.value raw) in
     record {
       whole = ap length (carries c) ∙ carried_size m.sectors m.medium.bytes (bytes c) (calls c) (within c) c.self.invariant.whole;
-      held = subst (λ (medium : List ℕ). AreHeld m.sectors medium c.carry-2.new.self) (sym (carries c)) held;
+      held = subst (λ (medium : List ℕ). All (IsHeld m.sectors medium) c.carry-2.new.known.items) (sym (carries c)) held;
       held_fit = c.carry-2.ensures.space c.self.invariant.held_fit;
       within = subst (λ (l : List Call). All (IsWithin m.sectors (vec_len c.clear-2.new.self)) l) (sym c.clear.ensures.items) (All-nil (IsWithin m.sectors (vec_len c.clear-2.new.self)));
       only = subst (λ (l : List Call). All IsRequest l) (sym c.clear.ensures.items) (All-nil IsRequest);

@@ -1,4 +1,4 @@
 use Rattle.request_disk.proofs.requesting.RequestDisk.on.Given as goal
 
-abbrev pub ghost-holding : goal.ghost-holding
-ghost-holding g a = g.medium
+abbrev pub ghost-of : goal.ghost-of
+ghost-of g a = g.medium

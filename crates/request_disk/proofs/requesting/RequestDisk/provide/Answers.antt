@@ -1,9 +1,9 @@
-use Rattle.std.proofs.Common.{◌≡◌, ℕ, ◌<◌, false, List, length, Option, is_some, sym, ◌∙◌, ap, subst, rules}
+use Rattle.std.proofs.Common.{◌≡◌, ℕ, ◌<◌, false, List, length, is_some, sym, ◌∙◌, ap, subst, rules}
+use Rattle.std.specs.Prelude.{All}
 use Rattle.disk.specs.State.{State, contents_of}
 use Rattle.disk.specs.Record.{state_of}
 use Rattle.request_disk.specs.Requests.{found_in}
-use Rattle.request_disk.specs.Held.{known_of, is_held, AreHeld}
-use Rattle.request_disk.specs.Known.{IsHeld}
+use Rattle.request_disk.specs.Known.{numbers_of, has_number, IsHeld}
 use Rattle.request_disk.specs.Medium.{with_sectors}
 use Rattle.request_disk.specs.Requesting.{Requesting, request_state, knows}
 use Rattle.request_disk.specs.declared.known.Known.{Known}
@@ -11,13 +11,13 @@ use Rattle.request_disk.proofs.Carried.{put_size, put_other, put_one}
 use Rattle.request_disk.proofs.Holding.{has_added, or_right, unknown_held, reported_put, reported_others, same_medium}
 use Rattle.request_disk.proofs.requesting.RequestDisk.provide.Goals as goal
 
-module _ (c : goal.After-add) where
+module _ (c : goal.After-hold) where
   -- the disk as its fields say it
   abbrev w : Requesting
   w = record {
     sectors = c.self.inside.sectors;
     medium = c.self.inside.medium.bytes;
-    known = known_of c.self.inside.held;
+    known = numbers_of c.self.inside.known.items;
     requests = c.self.inside.requests.items;
     written = c.self.inside.written.items;
     faults = c.self.inside.faults;
@@ -46,13 +46,13 @@ pub invariant_of-self-2 : goal.invariant_of-self-2
 invariant_of-self-2 c =
     let m = c.self.inside in let s = c.args.sector in
     let one : IsHeld m.sectors (next c) (unknown_sector c) = record { below = below c; bytes = sym (put_one m.sectors m.medium.bytes c.args.bytes.now s (below c) (size c) c.self.invariant.whole) } in
-    let held : AreHeld m.sectors (next c) c.add.new.self =
-    c.add.ensures.held m.sectors m.medium.bytes (next c) (unknown_held s (w c) (unknown c))
+    let held : All (IsHeld m.sectors (next c)) c.hold.new.known.items =
+    c.hold.ensures.held m.sectors m.medium.bytes (next c) (unknown_held s (w c) (unknown c))
     (put_other m.sectors m.medium.bytes c.args.bytes.now s (below c) (size c) c.self.invariant.whole) one c.self.invariant.held in
     record {
       whole = ap length (carries c) ∙ put_size m.sectors m.medium.bytes c.args.bytes.now s (below c) (size c) c.self.invariant.whole;
-      held = subst (λ (medium : List ℕ). AreHeld m.sectors medium c.add.new.self) (sym (carries c)) held;
-      held_fit = c.add.ensures.space;
+      held = subst (λ (medium : List ℕ). All (IsHeld m.sectors medium) c.hold.new.known.items) (sym (carries c)) held;
+      held_fit = c.hold.ensures.space;
       within = c.self.invariant.within;
       only = c.self.invariant.only;
       none = c.self.invariant.none;
@@ -82,5 +82,5 @@ returns-clause-others c = λ s other.
 pub returns-clause-known : goal.returns-clause-known
 returns-clause-known c =
     let s = c.args.sector in
-    or_right (is_some (found_in s c.self.inside.requests.items)) (is_held s (known_of c.add.new.self))
-    (ap (λ (o : Option (List ℕ)). is_held s o) c.add.ensures.known ∙ has_added s (known_of c.self.inside.held))
+    or_right (is_some (found_in s c.self.inside.requests.items)) (has_number s (numbers_of c.hold.new.known.items))
+    (ap (λ (numbers : List ℕ). has_number s numbers) c.hold.ensures.numbers ∙ has_added s (numbers_of c.self.inside.known.items))

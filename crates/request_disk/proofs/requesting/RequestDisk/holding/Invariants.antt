@@ -1,4 +1,0 @@
-use Rattle.request_disk.proofs.requesting.RequestDisk.holding.Given as goal
-
-abbrev pub ghost-of : goal.ghost-of
-ghost-of g a = g.medium

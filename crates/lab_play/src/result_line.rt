@@ -2,16 +2,15 @@
 
 use crate::digits::digits_of;
 use crate::request::LineFault;
-use events::{Brake, Output};
-use lab_events::{level_number, sign_pieces};
-use mode_table::Mode;
+use events::{Brake, Indications, Output};
+use mode_table::{Mode, TrainLevel};
 use scenario_player::{LiveError, Played, Released};
 use serde_json::Value;
 use sessions::of_stop;
 use sha2::{Digest, Sha256};
 use std::io;
 use std::io::Write;
-use text_output::{Form, Piece, brake_name, known, mode_name, write_parts, write_pieces};
+use text_output::{Form, Piece, brake_name, known, mode_name, write_pieces};
 
 /// Which outputs are printed.
 #[derive(Clone, Copy)]
@@ -107,12 +106,41 @@ fn counts_of(released: &[Released]) -> Counts {
     counts
 }
 
+// A level as a number, null where none is valid.
+fn level_number(level: Option<TrainLevel>) -> &'static str {
+    match level {
+        None => "null",
+        Some(TrainLevel::Level0) => "0",
+        Some(TrainLevel::Level1) => "1",
+    }
+}
+
 fn is_same(one: &Output, other: &Output) -> bool {
     mode_name(one.mode) == mode_name(other.mode)
         && level_number(one.level) == level_number(other.level)
         && brake_name(one.brake) == brake_name(other.brake)
         && one.limit.get() == other.limit.get()
         && one.indications.number() == other.indications.number()
+}
+
+// The names of the indications that are displayed, as a list.
+fn write_indications<W: Write>(indications: Indications, out: &mut W) -> io::Result<()> {
+    let mut separator = "[\"";
+    for (is_displayed, name) in [
+        (indications.on_sight, "on_sight"),
+        (indications.shunting, "shunting"),
+        (indications.level_0, "level_0"),
+        (indications.trip, "trip"),
+        (indications.overridden, "overridden"),
+        (indications.not_revalidated, "not_revalidated"),
+        (indications.overspeed, "overspeed"),
+    ] {
+        if is_displayed {
+            write!(out, "{separator}{name}\"")?;
+            separator = ",\"";
+        }
+    }
+    out.write_all(if separator == "[\"" { b"[]" } else { b"]" })
 }
 
 fn write_output<W: Write>(one: &Released, comma: bool, out: &mut W) -> io::Result<()> {
@@ -128,10 +156,11 @@ fn write_output<W: Write>(one: &Released, comma: bool, out: &mut W) -> io::Resul
         Piece::Same(brake_name(output.brake)),
         Piece::Same("\",\"limit_m_per_h\":"),
         Piece::Number(u64::from(output.limit.get())),
-        Piece::Same(",\"indications\":["),
+        Piece::Same(",\"indications\":"),
     ];
-    let signs = sign_pieces(output.indications);
-    write_parts(Form::Json, &[&front, &signs, &[Piece::Same("]}")]], out)
+    write_pieces(Form::Json, &front, out)?;
+    write_indications(output.indications, out)?;
+    out.write_all(b"}")
 }
 
 fn write_all<W: Write>(released: &[Released], out: &mut W) -> io::Result<()> {

@@ -4,13 +4,15 @@ use command_line::lab_status::{Status, fail, no_memory, reported, unread_for, un
 use decoding::decode_text;
 use hex::FromHexError;
 use installed_values::{AdaptError, Adaptation, adapt};
+use line_sinks::{JsonLines, LineSink};
+use lives::LateError;
 use packets::TELEGRAM_BYTES;
 use std::alloc::Global;
 use std::fs::File;
 use std::io::{Read, Write};
 use std::rt::Files;
 use std::{fs, io};
-use telegram_objects::{ObjectFault, Reason, bytes_of_text, write_answer};
+use telegram_objects::{Decoded, ObjectFault, Reason, bytes_of_text, decoded_of};
 use track_packets::{Fields, PacketPlace, fields_of};
 
 // The bytes of a file, or of standard input.
@@ -152,14 +154,36 @@ pub fn adapted_reported<R: AllocGlobal + Eprint, W: Write>(
     Ok(Status::Whole)
 }
 
-// Writes what digits carry as an object; whether they carry a telegram.
-fn write_object<W: Write>(alloc: Global, digits: &str, out: &mut W) -> io::Result<bool> {
-    let refused = match hex::decode(alloc, digits) {
-        Ok(bytes) => return write_answer(bytes.as_slice(), out),
-        Err(FromHexError::OutOfMemory) => "{\"refused\":{\"name\":\"memory\"}}\n",
-        Err(_) => "{\"refused\":{\"name\":\"hex\"}}\n",
+// Prints what bytes come to as a line of JSON; whether they carry a telegram.
+fn print_decoded<W: Write>(alloc: Global, bytes: &[u8], out: &mut W) -> Result<bool, LateError> {
+    let Ok(decoded) = decoded_of(alloc, bytes) else {
+        return Err(LateError::NoMemory);
     };
-    out.write_all(refused.as_bytes()).map(|()| false)
+    JsonLines::new(alloc, out).take(&decoded)?;
+    Ok(matches!(decoded, Decoded::Telegram(_)))
+}
+
+// Prints what digits carry as a line of JSON; whether they carry a telegram.
+fn print_object<W: Write>(alloc: Global, digits: &str, out: &mut W) -> Result<bool, LateError> {
+    let printed = match hex::decode(alloc, digits) {
+        Ok(bytes) => print_decoded(alloc, bytes.as_slice(), out),
+        Err(FromHexError::OutOfMemory) => Err(LateError::NoMemory),
+        Err(_) => {
+            out.write_all(b"{\"refused\":{\"name\":\"hex\"}}\n")?;
+            Ok(false)
+        }
+    };
+    if let Err(LateError::NoMemory) = printed {
+        out.write_all(b"{\"refused\":{\"name\":\"memory\"}}\n")?;
+        return Ok(false);
+    }
+    printed
+}
+
+// Prints what digits carry in lines, as `etcs decode`; whether they carry a telegram.
+fn print_lines<W: Write>(alloc: Global, digits: &str, out: &mut W) -> Result<bool, LateError> {
+    let status = decode_text(alloc, digits, out)?;
+    Ok(status as u8 == 0)
 }
 
 /// Writes what digits carry, in lines as `etcs decode` or as JSON, and answers the status.
@@ -170,9 +194,9 @@ pub fn decode_reported<R: AllocGlobal + Eprint, W: Write>(
     out: &mut W,
 ) -> Result<Status, Status> {
     let reported = if json {
-        write_object(rt.alloc(), digits, out)
+        print_object(rt.alloc(), digits, out)
     } else {
-        decode_text(rt.alloc(), digits, out).map(|status| status as u8 == 0)
+        print_lines(rt.alloc(), digits, out)
     };
     match reported {
         Ok(true) => Ok(Status::Whole),

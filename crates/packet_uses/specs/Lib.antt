@@ -1,7 +1,6 @@
 pub mod Calls
 pub mod Fates
 pub mod Laws
-pub mod Lists
 pub mod Never
 pub mod Description
 pub mod Texts

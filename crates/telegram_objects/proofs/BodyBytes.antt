@@ -6,7 +6,7 @@ use Rattle.bits.specs.Bits.{bits_of, number, number_bits}
 use Rattle.bits.proofs.Numbers.{length-number_bits, number-of_bits}
 use Rattle.bits.proofs.Writes.{number-lt, bits-number}
 use Rattle.hex.specs.Hex.{IsBytes}
-use Rattle.telegram_objects.specs.Lines.{bytes_in, padded, body_bytes}
+use Rattle.telegram_objects.specs.Objects.{bytes_in, padded, body_bytes}
 
 length-bytes_in : (n : ℕ) (bits : List Bool) → length (bytes_in n bits) ≡ n
 length-bytes_in zero bits = refl

@@ -7,11 +7,4 @@ pub mod Plains
 pub mod Puts
 pub mod Shapes
 mod BodyBytes
-mod HexDigits
-mod LineEnds
-mod LinesDescribe
-mod PieceTexts
-mod PlainNames
-mod ReadAgain
-mod RefusalText
-pub mod UniqueNames
+mod Describing

@@ -1,5 +1,5 @@
+pub mod Description
 pub mod Fields
 pub mod Laying
-pub mod Lines
-pub mod Description
+pub mod Objects
 pub mod Widths

@@ -1,5 +1,0 @@
-use Rattle.std.proofs.Common.{length}
-use Rattle.telegram_objects.proofs.text.+write_packets.Given as goal
-
-abbrev pub decreases-write_packets : goal.decreases-write_packets
-decreases-write_packets g l = length l.packets.now

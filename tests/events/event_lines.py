@@ -4,8 +4,11 @@ Each line is a list of pairs of name and value, so that duplicate names and a wr
 """
 import struct
 
+from functools import cache
+
 import blocks
 import decoded
+import demand_words
 import track_packets
 from journal import BRAKES, read_block, record_in, signs_of, slots_in, valid_number
 
@@ -75,6 +78,19 @@ def unused_packets(data):
     return found
 
 
+@cache
+def demanded(data, mode, is_overridden):
+    """What a guard demands by a telegram in this mode, where the direction of its group isn't known."""
+    return [list(one.items()) for one in demand_words.members(data, mode, is_overridden, [])]
+
+
+def demands(data, number, before):
+    """.. by the telegram of an event of this number; None where the record before isn't that of the event before."""
+    if before is None or before["number"] + 1 != number:
+        return None
+    return demanded(data, MODES[before["mode"]], "overridden" in signs_of(before["ind"]))
+
+
 def action_members(data):
     code, rest = data[0], data[1:]
     if code == 1:
@@ -94,13 +110,13 @@ def action_members(data):
     return [("action", PLAIN[code])]
 
 
-def event_members(event):
+def event_members(event, number, before):
     kind, *values = event
     if kind == "powerup":
         return [("word", WORDS[values[0]])]
     if kind == "telegram":
         return [("telegram", values[0].hex()), ("decoded", telegram_members(values[0])),
-                ("unused", unused_packets(values[0]))]
+                ("unused", unused_packets(values[0])), ("demands", demands(values[0], number, before))]
     if kind == "odometer":
         return [("movement_cm", values[0]), ("speed_m_per_h", values[1])]
     if kind == "clock":
@@ -122,22 +138,23 @@ def width_of(form):
     return 128 if form == 1 else 256
 
 
-def line_of(r, form, source, block, byte, life):
-    """The line of a record that begins at this byte of the image."""
+def line_of(r, form, source, block, byte, life, before=None):
+    """The line of a record that begins at this byte of the image, after this record of the journal or of its block."""
     return ([("source", source)] if source else []) + [
         ("block", block), ("byte", byte), ("event", r["number"]), ("life", life),
         ("kind", r["event"][0]), ("time_ms", r["moment"]), ("mode", MODES[r["mode"]]),
         ("level", None if r["level"] == 255 else r["level"]), ("brake", BRAKES[r["brake"]]),
         ("indications", signs_of(r["ind"])),
-        *place_members(r, form), *event_members(r["event"])]
+        *place_members(r, form), *event_members(r["event"], r["number"], before)]
 
 
-def lines_of(block, slot, source=None):
-    """The lines of a block's records. A power-up begins a life, so a record is of the last one less those begun after it."""
+def lines_of(block, slot, source=None, before=None):
+    """The lines of a block's records, after this record. A power-up begins a life, so a record is of the last one less those begun after it."""
     begun, form = [r["event"][0] == "powerup" for r in block["records"]], block["format"]
     for k, r in enumerate(block["records"]):
         byte = SECTOR * (3 + 6 * slot) + width_of(form) * k
-        yield line_of(r, form, source, block["number"], byte, max(0, block["lives"] - sum(begun[k + 1:])))
+        yield line_of(r, form, source, block["number"], byte, max(0, block["lives"] - sum(begun[k + 1:])), before)
+        before = r
 
 
 def record_alone(data, form):
@@ -207,7 +224,8 @@ def image_lines(image, all_blocks):
     lines = [[("image", [("sectors", sectors), ("slots", slots), *run])]] + (others if all_blocks else [])
     for number in range(first, newest + 1):
         if number in journal:
-            lines += lines_of(journal[number], number % slots, "journal" if all_blocks else None)
+            before = journal[number - 1]["records"][-1] if number - 1 in journal else None
+            lines += lines_of(journal[number], number % slots, "journal" if all_blocks else None, before)
         else:
             lines.append([("unreadable", [("block", number)])])
             lines += parts.get(number, []) if all_blocks else []

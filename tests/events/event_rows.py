@@ -17,6 +17,8 @@ from event_lines import Refused, image_lines  # noqa: E402
 RINGS, SEED = 300, 41
 LEAST_LINES, LEAST_IMAGES = 45_000, 2_800
 SOURCES = {"journal", "after_gap", "replaced", "unwritten", "misplaced", "damaged"}
+LEAST_DEMANDED = 2_000
+DEMANDED = {"trip", "service_brake", "not_obeyed", "unreadable"}
 # Each image is listed with and without the other blocks.
 EACH = 5
 
@@ -49,8 +51,8 @@ def read_line(line):
 
 class Count:
     def __init__(self):
-        self.images = self.lines = self.differ = self.sources = 0
-        self.seen = set()
+        self.images = self.lines = self.differ = self.demanded = self.unknown = 0
+        self.seen, self.demands = set(), set()
 
     def differs(self, name, got, want):
         self.differ += 1
@@ -78,14 +80,24 @@ class Count:
             if as_read(one) != as_read(other):
                 self.differs(name, one, other)
             self.seen |= {(key, value) for key, value in other if key in ("source", "kind", "action", "mode", "word") and value}
+            self.note_demands(dict(other).get("demands", ()))
+
+    def note_demands(self, demands):
+        if demands is None:
+            self.unknown += 1
+            return
+        self.demanded += len(demands)
+        self.demands |= {(dict(one)["demanded"], dict(one)["only_in_direction"]) for one in demands}
 
     def end(self):
         kinds = {value for key, value in self.seen if key == "source"}
         actions = {value for key, value in self.seen if key == "action"}
-        print(f"events: {self.lines} lines of {self.images} listings compared field by field, {self.differ} differ")
+        print(f"events: {self.lines} lines of {self.images} listings compared field by field, {self.differ} differ; "
+              f"{self.demanded} demands of a guard, {self.unknown} telegrams without the record before")
         few = self.lines < LEAST_LINES or self.images < LEAST_IMAGES or kinds != SOURCES or len(actions) < 11
+        few = few or min(self.demanded, self.unknown) < LEAST_DEMANDED or {what for what, _ in self.demands} != DEMANDED or len(self.demands) < 8
         if few:
-            print(f"too little was tried: sources {sorted(kinds)}, {len(actions)} actions")
+            print(f"too little was tried: sources {sorted(kinds)}, {len(actions)} actions, demands {self.demands}")
         return 1 if few or self.differ else 0
 
 
@@ -140,7 +152,7 @@ def body_row(run):
         _, out = run(slots_of([(1, blocks.data_of(blocks.block(3, 1, 1, 1, [blocks.entry(0, ("telegram", data))])))], 2), False)
         wanted = (f'"packets":[{{"packet":44,"fields":[["NID_PACKET",44],["Q_DIR",2],["L_PACKET",{23 + count}]],'
                   f'"skipped_bits":{count},"body":"{digits}"}}],"bits":{81 + count}}},"unused":[{{"packet":44,'
-                  f'"name":"Data used by applications outside the ERTMS/ETCS system","bit":50,"bits":{23 + count},"why":"not_known"}}]}}')
+                  f'"name":"Data used by applications outside the ERTMS/ETCS system","bit":50,"bits":{23 + count},"why":"not_known"}}],"demands":null}}')
         if not out.splitlines()[1].endswith(wanted):
             print(f"a body of {count} bits:\n  found  {out.splitlines()[1]}\n  wanted {wanted}")
             wrong += 1
@@ -178,6 +190,51 @@ def unused_row(run):
     return wrong
 
 
+def sent(*packets):
+    """A telegram of group 1 2 with these packets."""
+    bits = "1" "0010000" "0" "000" "000" "00" "11111111" "0000000001" "00000000000010" "1" + "".join(packets) + "11111111"
+    return "telegram", int(bits.ljust(-(-len(bits) // 8) * 8, "0"), 2).to_bytes(-(-len(bits) // 8), "big")
+
+
+def demands_row(run):
+    """By hand, by the table of crates/track_guard/README.md (SUBSET-026, 4.6.3 and 3.11.4): what a guard demands by the telegrams of a ring of
+    five slots. Block 3 is damaged in its third record, and slot 0 has a copy of block 2. The mode and the override of a record are those after it."""
+    fs, sr, sb = 0, 2, 6
+    stop, stop_nominal = ("10001001" + q_dir + "0000000011000" "0" for q_dir in ("10", "01"))  # 137: NID_PACKET, Q_DIR, L_PACKET 24, Q_SRSTOP 0
+    axles, axles_reverse = ("00110011" + q_dir + "0000000011010" "000" for q_dir in ("10", "00"))  # 51: L_PACKET 26
+    trip = ("trip", None, "SR", "stop_in_staff_responsible", 137, "4.6.3", "sure")
+    skips = ("not_obeyed", None, "SR", "axle_load_speeds", 51, "3.11.4", "fairly_sure")
+    skips_reverse = ("not_obeyed", "reverse", "FS", "axle_load_speeds", 51, "3.11.4", "fairly_sure")
+    events = [("powerup", 0), sent(stop), ("clock", 1), sent(stop), ("clock", 2), sent(stop, axles), ("clock", 3), sent(stop_nominal, axles_reverse)]
+    after = [(sb, 0), (sb, 0), (sr, 0), (sr, 0), (sr, 16), (sr, 16), (fs, 0), (sr, 0)]  # 16 is the bit of the override
+    first = [blocks.entry(k, event, mode=mode, ind=ind) for k, (event, (mode, ind)) in enumerate(zip(events, after))]
+
+    def later(number, start):
+        """A block of two telegrams that are heard in Staff Responsible, and six moments."""
+        heard = [sent(stop), sent(stop), *(("clock", k) for k in range(6))]
+        return blocks.data_of(blocks.block(3, number, start + 8, 1, [blocks.entry(start + k, event, mode=sr) for k, event in enumerate(heard)]))
+
+    one, damaged = blocks.data_of(blocks.block(3, 1, 8, 1, first)), bytearray(later(3, 16))
+    damaged[2 * 512 + 2 * 256 + 1] = 5
+    ring = slots_of([(1, one), (2, later(2, 8)), (3, bytes(damaged)), (4, later(4, 24)), (0, later(2, 8))], 5)
+    known = [(1, []), (3, [trip]), (5, [skips]), (7, [skips_reverse]), (8, [trip]), (9, [trip])]
+    rows = [
+        ("the journal", ring, False, [*known, (24, None), (25, [trip])]),
+        ("all blocks", ring, True, [(8, None), (9, [trip]), *known, (16, None), (17, None), (24, None), (25, [trip])]),
+        ("events that don't follow", slots_of([(1, one), (2, later(2, 10))], 3), False, [*known[:4], (10, None), (11, [trip])]),
+    ]
+    wrong = 0
+    for what, image, all_blocks, wanted in rows:
+        _, out = run(image, all_blocks)
+        lines = [line for line in map(json.loads, out.splitlines()) if "telegram" in line]
+        found = [(line["event"], line["demands"] and [tuple(one.values()) for one in line["demands"]]) for line in lines]
+        if found != wanted:
+            print(f"demands, {what}:\n  found  {found}\n  wanted {wanted}")
+            wrong += 1
+    print(f"events: {len(rows)} listings with demands of a guard by hand, {wrong} differ")
+    return wrong
+
+
 def main(words):
     count = Count()
     program, rings, seed = words[0], *(int(word) for word in words[1:3]), *(RINGS, SEED)[len(words) - 1:]
@@ -196,7 +253,7 @@ def main(words):
         for name, image in all_images(rings, seed):
             for all_blocks in (False, True):
                 count.compare(f"{name}, {'all' if all_blocks else 'journal'}", *run(image, all_blocks), image, all_blocks)
-        wrong = markup_row(run) + by_hand_rows(run) + body_row(run) + unused_row(run)
+        wrong = markup_row(run) + by_hand_rows(run) + body_row(run) + unused_row(run) + demands_row(run)
     return 1 if count.end() or wrong else 0
 
 

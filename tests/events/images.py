@@ -70,12 +70,17 @@ def telegram(numbers, known):
     return bytes(data)
 
 
-def skipped(number, body_bits):
+def skipped(number, body_bits, q_dir="10"):
     """A telegram with a packet of this number, which is skipped."""
     bits = "1" + "0010000" + "0" + "000" + "000" + "00" + "11111111" + f"{1:010b}" + f"{2:014b}" + "0"
-    bits += f"{number:08b}" + "10" + f"{23 + body_bits:013b}" + "10" * (body_bits // 2) + "1" * (body_bits % 2) + "11111111"
+    bits += f"{number:08b}" + q_dir + f"{23 + body_bits:013b}" + "10" * (body_bits // 2) + "1" * (body_bits % 2) + "11111111"
     bits = bits.ljust(-(-len(bits) // 8) * 8, "0")
     return int(bits, 2).to_bytes(len(bits) // 8, "big")
+
+
+def guarded():
+    """Telegrams with each packet for which a guard demands something, in each direction."""
+    return [skipped(number, bits, f"{q_dir:02b}") for number in (16, 46, 49, 51, 70, 71, 132, 135, 137) for bits in (1, 2) for q_dir in range(4)]
 
 
 # ---- records
@@ -174,7 +179,7 @@ def example_images():
 
 
 def random_images(count, seed):
-    numbers, known = Numbers(seed), known_telegrams()
+    numbers, known = Numbers(seed), known_telegrams() + guarded()
     for k in range(count):
         yield f"ring {k} of seed {seed}", ring(numbers, known)
     sizes = Numbers(seed + 1)

@@ -293,7 +293,7 @@ class Plays(Compared):
         """The records that the package reads from an image in Python, as `etcs_lab events` prints them."""
         from gaknifur.journal import played_image
         lines = [json.loads(line) for line in run(self.lab, ["events", image])[0].splitlines()]
-        wanted = [{name: value for name, value in one.items() if name not in ("decoded", "unused")} for one in lines if "event" in one]
+        wanted = [{name: value for name, value in one.items() if name not in ("decoded", "unused", "demands")} for one in lines if "event" in one]
         self.same(f"records, {case.name}", played_image.records(image.read_bytes()), wanted)
         self.met["records"] += len(wanted)
 

@@ -106,7 +106,7 @@ def answers(image: bytes) -> Answers:
 
 
 def records(image: bytes) -> list[Json]:
-    """The records as `etcs_lab events` prints them, but for `decoded` and `unused` of a telegram."""
+    """The records as `etcs_lab events` prints them, but for `decoded`, `unused` and `demands` of a telegram."""
     try:
         return [record_of(block, number, one) for block in blocks(image) for number, one in enumerate(RECORD.iter_unpack(block.records))]
     except (KeyError, IndexError, ValueError, struct.error) as error:

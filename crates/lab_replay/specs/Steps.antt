@@ -1,16 +1,15 @@
 -- The lines of a step of a walk, and how a replay goes on after it (this project's profile).
-use Rattle.std.specs.Prelude.{◌≡◌, ◌⊎◌, ℕ, ◌++◌, false, List, [], ◌∷◌, Option, Some, None, option_to_list}
+use Rattle.std.specs.Prelude.{◌≡◌, ℕ, ◌++◌, false, List, [], ◌∷◌, Option, Some, None, option_to_list}
 use Rattle.blocks.specs.declared.block.Block.{Block}
 use Rattle.blocks.specs.declared.records.BlockRecord.{BlockRecord}
 use Rattle.lives.specs.Steps.{Step}
-use Rattle.lives.specs.declared.errors.LateError.{LateError}
-use Rattle.lives.specs.declared.errors.LateError.TheVariants as a_late
+use Rattle.inquiry.specs.Answers.{in_order}
 use Rattle.replaying.specs.Judgements.{GoesOn, Begins, IsHeadFound}
 use Rattle.replaying.specs.declared.following.Found.{Found}
 use Rattle.replaying.specs.declared.heads.HeadFound.{HeadFound}
 use Rattle.replaying.specs.declared.judging.Judged.{Judged}
-use Rattle.lab_replay.specs.Courses.{open_line, without_stretch, after_gap, after_difference, judged_so, left_open}
-use Rattle.lab_replay.specs.Lines.{record_line, head_line, lost_line}
+use Rattle.lab_replay.specs.Courses.{open_line, without_stretch, after_gap, after_difference, judged_so, left_open, outcome_of}
+use Rattle.lab_replay.specs.Lines.{record_line, head_line, lost_line, end_line}
 use Rattle.lab_replay.specs.declared.course.Course.{Course}
 use Rattle.lab_replay.specs.declared.line.ReplayLine.{ReplayLine}
 
@@ -50,37 +49,15 @@ pub record HeadLines (b : Block) (c next : Course) (lines : List ReplayLine) : T
 -- these are the lines of a step
 abbrev pub StepLines : Step → Course → Course → List ReplayLine → Type 0
 StepLines (Step.Unreadable number) c next lines = (next ≡ after_gap c) × (lines ≡ left_and c (lost_line number))
-StepLines Step.Missing c next lines = (next ≡ after_gap c) × (lines ≡ option_to_list (open_line c))
+StepLines Step.Missing c next lines = (next ≡ after_gap c) × (lines ≡ in_order (open_line c) None)
 StepLines (Step.Begins block life before r) c next lines = (later : List ReplayLine)
     × RecordLines (Begins before block.format r c.judged) block life r (without_stretch c) next later
     × (lines ≡ option_to_list (open_line c) ++ later)
 StepLines (Step.GoesOn block life r) c next lines = RecordLines (GoesOn block.format r c.judged) block life r c next lines
 StepLines (Step.Head block) c next lines = HeadLines block c next lines
 
--- .. of one step after another
-abbrev pub AllLines : List Step → Course → Course → List ReplayLine → Type 0
-AllLines [] c last lines = (last ≡ c) × (lines ≡ [])
-AllLines (step ∷ steps) c last lines = (next : Course) × (these : List ReplayLine) × (later : List ReplayLine)
-    × StepLines step c next these × AllLines steps next last later × (lines ≡ these ++ later)
+-- ---- the end
 
--- ---- a replay that an error ends
-
--- memory was refused, which isn't the sink's error
-abbrev pub IsMemory : LateError → Type 0
-IsMemory a_late.Write = ⊥
-IsMemory a_late.NoMemory = Unit {0}
-
--- the line that a step begins with whatever its record is: a power-up ends the life before
-abbrev pub ended_life : Step → Course → List ReplayLine
-ended_life (Step.Begins block life before r) c = option_to_list (open_line c)
-ended_life _ c = []
-
--- lines that a step begins with: none, that of the life before, or all
-abbrev pub StepBegins : Step → Course → List ReplayLine → Type 0
-StepBegins step c lines = (lines ≡ []) ⊎ ((lines ≡ ended_life step c) ⊎ ((next : Course) × StepLines step c next lines))
-
--- lines that these steps begin with: all those of the first steps, and some of the next one
-abbrev pub AllBegin : List Step → Course → List ReplayLine → Type 0
-AllBegin [] c lines = ⊥
-AllBegin (step ∷ steps) c lines = StepBegins step c lines ⊎ ((next : Course) × (these : List ReplayLine) × (later : List ReplayLine)
-    × StepLines step c next these × AllBegin steps next later × (lines ≡ these ++ later))
+-- what is left, and the result
+abbrev pub last_lines : Course → List ReplayLine
+last_lines c = left_and c (end_line (outcome_of c.is_whole))

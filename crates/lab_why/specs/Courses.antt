@@ -4,11 +4,12 @@
 -- and what decides a limit (`IsLimitCause`, in speed_supervision), where of several of equal force one is named. It is
 -- said of every story that may stand before a life, of this unit's own events or not: whatever the head before it
 -- reports, there is one after which just that is kept (`story_by`).
-use Rattle.std.specs.Prelude.{◌≡◌, ◌⊎◌, ℕ, ◌-◌, ◌^◌, true, false, Option, Some, None, List, [], ◌++◌, Result, Ok, Err, option_to_list}
+use Rattle.std.specs.Prelude.{◌≡◌, ◌⊎◌, ℕ, ◌-◌, ◌^◌, true, false, Option, Some, None, List, [], Result, Ok, Err}
 use Rattle.blocks.specs.declared.records.BlockRecord.{BlockRecord}
 use Rattle.events.specs.declared.input.Event.{Event}
 use Rattle.events.specs.declared.input.Event.TheVariants.{PowerUp, Input}
 use Rattle.events.specs.declared.kept.Kept.{Kept}
+use Rattle.inquiry.specs.Answers.{in_order}
 use Rattle.kernel.specs.Lives.{Story, onward, past_at, left_by, one_more}
 use Rattle.kernel.specs.Output.{output_at}
 use Rattle.speed_supervision.specs.Causes.{IsLimitCause}
@@ -186,8 +187,8 @@ IsStepLine (Step.Head block) c next line = (next ≡ c) × (line ≡ None)
 -- these are the lines of a step
 abbrev pub StepLines : Step → Course → Course → List WhyLine → Type 0
 StepLines step c next lines = (line : Option WhyLine) × IsStepLine step c next line
-    × (lines ≡ option_to_list (line_before step c) ++ option_to_list line)
+    × (lines ≡ in_order (line_before step c) line)
 
--- lines that a step begins with: none, or all
-abbrev pub StepBegins : Step → Course → List WhyLine → Type 0
-StepBegins step c lines = (lines ≡ []) ⊎ ((next : Course) × StepLines step c next lines)
+-- after the last step: what is left
+abbrev pub last_lines : Course → List WhyLine
+last_lines c = in_order (left_line c) None

@@ -5,7 +5,6 @@ use Rattle.events.specs.declared.output.Output.{Output}
 use Rattle.kernel.specs.Brake.{rolled_backward}
 use Rattle.kernel.specs.Lives.{Story, past_at}
 use Rattle.kernel.specs.Output.{output_at}
-use Rattle.kernel.specs.declared.causes.BrakeCause.TheVariants as a_cause
 use Rattle.lab_demands.specs.declared.line.DemandLine.{DemandLine}
 use Rattle.lab_events.specs.declared.left_out.Reason.{Reason}
 use Rattle.lab_events.specs.declared.left_out.Stretch.{Stretch}
@@ -13,7 +12,6 @@ use Rattle.lab_replay.specs.declared.line.Verdict.TheVariants as a_verdict
 use Rattle.mode_control.specs.History.{tracks}
 use Rattle.mode_control.specs.Sentences.{values_of}
 use Rattle.reasons.specs.Closings.{judged_in, closings_of}
-use Rattle.reasons.specs.Runs.{first_in}
 use Rattle.reasons.specs.Trips.{trip_of}
 use Rattle.reasons.specs.declared.limit_texts.LimitReport.{LimitReport}
 use Rattle.reasons.specs.declared.runs.Runs.{Runs}
@@ -41,16 +39,7 @@ answer_in story event output = record {
 -- each cause of the brake with its first event, the trip that is owed, where it is known why, and what decides the limit
 abbrev pub causes_of : Runs → Option TripReport → LimitReport → Causes
 causes_of runs trip limit = record {
-  not_revalidated = first_in runs a_cause.NotRevalidated;
-  in_trip = first_in runs a_cause.InTrip;
-  in_system_failure = first_in runs a_cause.InSystemFailure;
-  owes_trip = first_in runs a_cause.OwesTrip;
-  far_too_fast = first_in runs a_cause.FarTooFast;
-  rolled_too_far = first_in runs a_cause.RolledTooFar;
-  service_brake_requested = first_in runs a_cause.ServiceBrakeRequested;
-  too_fast = first_in runs a_cause.TooFast;
-  must_stand = first_in runs a_cause.MustStand;
-  owes_too_long = first_in runs a_cause.OwesTooLong;
+  runs = record { runs = runs };
   trip_cause = option_map (λ (t : TripReport). t.cause) trip;
   trip_cause_event = option_map (λ (t : TripReport). t.event) trip;
   trip_cause_section = option_map (λ (t : TripReport). t.cause) trip;

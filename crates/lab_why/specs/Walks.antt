@@ -1,8 +1,8 @@
 -- All lines that say why the events of an image were answered so (this project's profile; docs/reference/format.md).
-use Rattle.std.specs.Prelude.{◌≡◌, ℕ, ◌++◌, Option, List, option_to_list}
-use Rattle.line_sinks.specs.Walks.{ImageLines, ImageBegins, IsCut}
+use Rattle.std.specs.Prelude.{◌≡◌, ℕ, Option, List}
+use Rattle.inquiry.specs.Answers.{AreAnswers, IsCutAnswer}
 use Rattle.lives.specs.declared.errors.WalkError.{WalkError}
-use Rattle.lab_why.specs.Courses.{initial, left_line, StepLines, StepBegins}
+use Rattle.lab_why.specs.Courses.{initial, last_lines, StepLines}
 use Rattle.lab_why.specs.declared.course.Course.{Course}
 use Rattle.lab_why.specs.declared.line.WhyLine.{WhyLine}
 use Rattle.lab_why.specs.declared.walk.Walked.{Walked}
@@ -11,14 +11,10 @@ use Rattle.lab_why.specs.declared.walk.Walked.{Walked}
 -- of what is left at the end.
 pub record IsWhy (only : Option ℕ) (sectors : ℕ) (image : ℕ → List ℕ) (walked : Walked) (lines : List WhyLine) : Type 0 where
   pub last : Course
-  pub before_end : List WhyLine
-  pub steps : ImageLines StepLines sectors image (initial only) last before_end
-  pub lines_are : lines ≡ before_end ++ option_to_list (left_line last)
+  pub answers : AreAnswers StepLines last_lines sectors image (initial only) last lines
   pub events_are : walked.events ≡ last.events
   pub whole_is : walked.is_whole ≡ last.is_whole
 
 -- what a sink took before an error: the first of the lines, and no other
 abbrev pub IsCutWhy : {S : Type 0} → (S → WhyLine → S → Type 0) → (S → WhyLine → S → Type 0) → Option ℕ → ℕ → (ℕ → List ℕ) → WalkError → S → S → Type 0
-IsCutWhy Takes Fails only sectors image error old new =
-    IsCut Takes Fails (λ lines. (walked : Walked) × IsWhy only sectors image walked lines)
-    (ImageBegins StepLines StepBegins sectors image (initial only)) error old new
+IsCutWhy Takes Fails only sectors image error old new = IsCutAnswer Takes Fails StepLines last_lines sectors image (initial only) error old new

@@ -25,5 +25,6 @@ pub use played::{
     DoneLine, LifeEnd, OutputLine, PlayLine, PlayedOutput, Scenario, ScenarioLine, StoppedLine,
 };
 pub use playing::{PlayedLife, play};
+pub use serializing::CauseRuns;
 pub use walk::{Walked, describe_why};
 pub use whole_lives::LiveError;

@@ -7,10 +7,10 @@ ghost use Rattle.lab_why.specs.Lines.{answer_in, causes_of, event_line, left_out
 use crate::course::Explanation;
 use crate::group::GroupLine;
 use crate::serializing::{
-    write_limit_cause, write_limit_section, write_trip_cause, write_trip_section,
+    CauseRuns, write_limit_cause, write_limit_section, write_trip_cause, write_trip_section,
 };
 use events::{Brake, Output};
-use kernel::{BrakeCause, TripCause};
+use kernel::TripCause;
 use lab_demands::DemandLine;
 use lab_events::{Reason, Stretch};
 use lab_replay::{LostBlock, StretchLine, Verdict};
@@ -36,30 +36,12 @@ pub struct Answer {
     pub allowed_backward_cm: u64,
 }
 
-/// Why the brake is commanded, the train was tripped, and the limit is what it is. Of each cause of the brake the number of
-/// the event since which it has held; None where it doesn't hold.
+/// Why the brake is commanded, the train was tripped, and the limit is what it is.
 #[derive(Clone, Copy, Serialize)]
 pub struct Causes {
-    /// The driver has not revalidated.
-    pub not_revalidated: Option<u64>,
-    /// The mode is Trip.
-    pub in_trip: Option<u64>,
-    /// The mode is System Failure.
-    pub in_system_failure: Option<u64>,
-    /// A trip is not acknowledged.
-    pub owes_trip: Option<u64>,
-    /// The speed was far above the limit.
-    pub far_too_fast: Option<u64>,
-    /// The train rolled backward too far.
-    pub rolled_too_far: Option<u64>,
-    /// Linking or a balise group asked for the service brake.
-    pub service_brake_requested: Option<u64>,
-    /// The speed was above the limit.
-    pub too_fast: Option<u64>,
-    /// The train moves where it must stand.
-    pub must_stand: Option<u64>,
-    /// An acknowledgement has been owed for too long.
-    pub owes_too_long: Option<u64>,
+    /// Of each cause of the brake the number of the event since which it has held; None where it doesn't hold.
+    #[serde(flatten)]
+    pub runs: CauseRuns,
     /// Why the train was tripped; None where no trip is owed, or it is from before the power-up.
     #[serde(serialize_with = "write_trip_cause")]
     pub trip_cause: Option<TripCause>,
@@ -135,16 +117,7 @@ pub(crate) fn causes_of(runs: &Runs, trip: &Option<TripReport>, limit: &LimitRep
         None => (None, None),
     };
     Causes {
-        not_revalidated: runs.first(BrakeCause::NotRevalidated),
-        in_trip: runs.first(BrakeCause::InTrip),
-        in_system_failure: runs.first(BrakeCause::InSystemFailure),
-        owes_trip: runs.first(BrakeCause::OwesTrip),
-        far_too_fast: runs.first(BrakeCause::FarTooFast),
-        rolled_too_far: runs.first(BrakeCause::RolledTooFar),
-        service_brake_requested: runs.first(BrakeCause::ServiceBrakeRequested),
-        too_fast: runs.first(BrakeCause::TooFast),
-        must_stand: runs.first(BrakeCause::MustStand),
-        owes_too_long: runs.first(BrakeCause::OwesTooLong),
+        runs: CauseRuns { runs: *runs },
         trip_cause,
         trip_cause_event,
         trip_cause_section: trip_cause,

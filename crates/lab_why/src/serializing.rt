@@ -1,12 +1,12 @@
 //! The names of values in JSON (`docs/reference/json.md`).
-use kernel::TripCause;
+use kernel::{BrakeCause, TripCause};
 use lab_events::cold_name;
 use mode_table::Cold;
 use reasons::{
-    GroupKind, LimitKind, group_name, group_section, limit_name, limit_section, trip_name,
-    trip_section,
+    GroupKind, LimitKind, Runs, cause_name, group_name, group_section, limit_name, limit_section,
+    trip_name, trip_section,
 };
-use serde::Serializer;
+use serde::{Described, Serialize, Serializer};
 use sessions::of_stop;
 use track_packets::kind_of;
 use vars::{LinkOrientation, LinkReaction};
@@ -17,6 +17,26 @@ fn write_text<S: Serializer>(text: Option<&str>, out: &mut S) -> Result<(), S::E
     match text {
         Some(text) => out.str(text),
         None => out.unit(),
+    }
+}
+
+/// Since which event each cause of the brake has held: a member for each, by its name.
+#[derive(Clone, Copy)]
+pub struct CauseRuns {
+    /// The events.
+    pub runs: Runs,
+}
+
+impl Described for CauseRuns {}
+
+impl Serialize for CauseRuns {
+    fn serialize<S: Serializer>(&self, out: &mut S) -> Result<(), S::Error> {
+        out.begin_map(Some(BrakeCause::ALL.len()))?;
+        for cause in BrakeCause::ALL {
+            out.key(cause_name(cause))?;
+            self.runs.first(cause).serialize(out)?;
+        }
+        out.end_map()
     }
 }
 

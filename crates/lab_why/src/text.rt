@@ -31,31 +31,10 @@ impl fmt::Display for Answer {
     }
 }
 
-impl Causes {
-    // The causes of the brake, in the order of its table.
-    fn of_brake(&self) -> [(BrakeCause, Option<u64>); 10] {
-        [
-            (BrakeCause::NotRevalidated, self.not_revalidated),
-            (BrakeCause::InTrip, self.in_trip),
-            (BrakeCause::InSystemFailure, self.in_system_failure),
-            (BrakeCause::OwesTrip, self.owes_trip),
-            (BrakeCause::FarTooFast, self.far_too_fast),
-            (BrakeCause::RolledTooFar, self.rolled_too_far),
-            (
-                BrakeCause::ServiceBrakeRequested,
-                self.service_brake_requested,
-            ),
-            (BrakeCause::TooFast, self.too_fast),
-            (BrakeCause::MustStand, self.must_stand),
-            (BrakeCause::OwesTooLong, self.owes_too_long),
-        ]
-    }
-}
-
 impl fmt::Display for Causes {
     fn fmt<W: fmt::Write>(&self, f: &mut fmt::Formatter<W>) -> fmt::Result {
-        for (cause, first) in self.of_brake() {
-            if let Some(first) = first {
+        for cause in BrakeCause::ALL {
+            if let Some(first) = self.runs.runs.first(cause) {
                 let (what, end) = (sentence(cause), ending(cause));
                 write!(f, "\n  because {what} (since event {first}, {end})")?;
             }

@@ -1,23 +1,21 @@
 //! The steps of a walk, explained: a life is run again, and its events have their lines.
-ghost use Rattle.std.specs.Prelude.{◌≡◌, false, List, IfOk, OnOk};
+ghost use Rattle.std.specs.Prelude.{◌≡◌, IfOk, OnOk};
 ghost use Rattle.kernel.specs.Lives.{Story};
-ghost use Rattle.line_sinks.specs.Sinks.{TakesAll, TakesSome};
-ghost use Rattle.line_sinks.specs.Walks.{IsMemory};
 ghost use Rattle.reasons.specs.Reported.{Reasons};
-ghost use Rattle.lab_why.specs.Courses.{IsEventLine, Follows, Begins, Describes, RunsAndDescribes, StepLines, StepBegins, initial_after, lost_line};
-ghost use Rattle.lab_why.specs.declared.line.WhyLine.{WhyLine as a_line};
+ghost use Rattle.lab_why.specs.Courses.{IsEventLine, Follows, Begins, Describes, RunsAndDescribes, initial_after, lost_line};
 
 use crate::course::{
-    Course, Explanation, begin_after, explanation_in, finish, has_line, leave_out, pass_gap,
+    Course, Explanation, begin_after, explanation_in, finish, has_line, leave_out, left_line,
+    pass_gap,
 };
 use crate::demanding::demands_of;
 use crate::group::group_lines;
 use crate::line::{WhyLine, event_line};
 use blocks::{Block, BlockRecord};
 use events::{Event, Kept};
+use inquiry::Inquiry;
 use lab_replay::{LostBlock, Verdict};
-use line_sinks::{LineSink, take_if, take_two};
-use lives::{LateError, Seen, Unknown, Visit};
+use lives::{Seen, Unknown};
 use reasons::Reasoning;
 use std::alloc::Global;
 use units::NoMemory;
@@ -130,28 +128,22 @@ fn lost_line(only: Option<u64>, number: u64) -> Option<WhyLine>
     }
 }
 
-impl<S: LineSink<WhyLine>> Visit<S> for Course {
-    ghost IsReported = { λ step old sink new after. (lines : List a_line) × StepLines step old new lines
-        × TakesAll S.Takes lines sink after };
+impl Inquiry for Course {
+    ghost use Rattle.lab_why.specs.Courses.{StepLines, last_lines};
 
-    ghost IsStopped = { λ step old sink error after. (lines : List a_line) × StepBegins step old lines
-        × TakesSome S.Takes S.Fails (IsMemory error) lines sink after };
+    type Line = WhyLine;
 
-    ghost enough = { λ _. false };
+    ghost Lines = { StepLines };
 
-    fn has_enough(&self) -> bool {
-        false
-    }
+    ghost lasting = { last_lines };
 
-    fn unreadable(&mut self, number: u64, sink: &mut S) -> Result<(), LateError> {
+    fn unreadable(&mut self, number: u64) -> (Option<WhyLine>, Option<WhyLine>) {
         let lost = lost_line(self.only, number);
-        let left = pass_gap(self);
-        take_two(&left, &lost, sink)
+        (pass_gap(self), lost)
     }
 
-    fn missing(&mut self, sink: &mut S) -> Result<(), LateError> {
-        let left = pass_gap(self);
-        take_two(&left, &None, sink)
+    fn missing(&mut self) -> (Option<WhyLine>, Option<WhyLine>) {
+        (pass_gap(self), None)
     }
 
     fn begins(
@@ -159,23 +151,26 @@ impl<S: LineSink<WhyLine>> Visit<S> for Course {
         alloc: Global,
         before: &Result<Kept, Unknown>,
         seen: &Seen<'_>,
-        sink: &mut S,
-    ) -> Result<(), LateError> {
+    ) -> Result<(Option<WhyLine>, Option<WhyLine>), NoMemory> {
         let left = finish(self);
-        let Ok(line) = begin_life(alloc, self, before, seen) else {
-            return Err(LateError::NoMemory);
-        };
-        take_two(&left, &line, sink)
+        let line = begin_life(alloc, self, before, seen)?;
+        Ok((left, line))
     }
 
-    fn goes_on(&mut self, alloc: Global, seen: &Seen<'_>, sink: &mut S) -> Result<(), LateError> {
-        let Ok(line) = go_on(alloc, self, seen) else {
-            return Err(LateError::NoMemory);
-        };
-        take_if(&line, sink)
+    fn goes_on(
+        &mut self,
+        alloc: Global,
+        seen: &Seen<'_>,
+    ) -> Result<(Option<WhyLine>, Option<WhyLine>), NoMemory> {
+        let line = go_on(alloc, self, seen)?;
+        Ok((None, line))
     }
 
-    fn head(&mut self, _block: &Block, _sink: &mut S) -> Result<(), LateError> {
-        Ok(())
+    fn head(&mut self, _block: &Block) -> (Option<WhyLine>, Option<WhyLine>) {
+        (None, None)
+    }
+
+    fn last(&self) -> (Option<WhyLine>, Option<WhyLine>) {
+        (left_line(self), None)
     }
 }

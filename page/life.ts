@@ -148,8 +148,8 @@ export class Life {
     }
 
     /**
-     * Answers the reads, and takes all other requests, for the page to show them: they are carried out later, but before
-     * anything is released.
+     * Answers the reads, and takes all other requests, for the page to show them: they are carried out later, but
+     * before anything is released.
      */
     private asked(): Asked[] {
         const list: Asked[] = [];

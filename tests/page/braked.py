@@ -124,13 +124,14 @@ def agrees(browser: Browser, _page: Path, folder: Path) -> int:
 
 
 def altered_fields(browser: Browser, _page: Path, folder: Path, count: int = ALTERED) -> int:
-    """Images with one altered byte of a record or a head: the verdict is the sentence that follows from the plain replay, as for each command of ./lab."""
+    """Images with one altered byte of a record or a head: the verdict is that of ./lab, and has the sentence that follows from the plain replay."""
     for number, data in enumerate(altered_images(count)):
         path = folder / f"image{number}"
         path.write_bytes(data)
         sentence, _ = wanted_of(data)
         found = "; ".join(browser.ask(path)["verdict"])
-        assert found == sentence, (number, found, sentence)
+        judged = "; ".join(verdicts.of(reading.read(path, replay=True)).sentences)
+        assert sentence in found and found == judged, (number, found, sentence, judged)
     return count
 
 

@@ -125,22 +125,26 @@ fn is_same(one: &Output, other: &Output) -> bool {
 
 // The names of the indications that are displayed, as a list.
 fn write_indications<W: Write>(indications: Indications, out: &mut W) -> io::Result<()> {
-    let mut separator = "[\"";
+    out.write_all(b"[")?;
+    let mut is_first = true;
     for (is_displayed, name) in [
-        (indications.on_sight, "on_sight"),
-        (indications.shunting, "shunting"),
-        (indications.level_0, "level_0"),
-        (indications.trip, "trip"),
-        (indications.overridden, "overridden"),
-        (indications.not_revalidated, "not_revalidated"),
-        (indications.overspeed, "overspeed"),
+        (indications.on_sight, "\"on_sight\""),
+        (indications.shunting, "\"shunting\""),
+        (indications.level_0, "\"level_0\""),
+        (indications.trip, "\"trip\""),
+        (indications.overridden, "\"overridden\""),
+        (indications.not_revalidated, "\"not_revalidated\""),
+        (indications.overspeed, "\"overspeed\""),
     ] {
         if is_displayed {
-            write!(out, "{separator}{name}\"")?;
-            separator = ",\"";
+            if !is_first {
+                out.write_all(b",")?;
+            }
+            out.write_all(name.as_bytes())?;
+            is_first = false;
         }
     }
-    out.write_all(if separator == "[\"" { b"[]" } else { b"]" })
+    out.write_all(b"]")
 }
 
 fn write_output<W: Write>(one: &Released, comma: bool, out: &mut W) -> io::Result<()> {

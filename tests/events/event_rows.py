@@ -17,7 +17,7 @@ from event_lines import Refused, image_lines  # noqa: E402
 RINGS, SEED = 300, 41
 LEAST_LINES, LEAST_IMAGES = 45_000, 2_800
 SOURCES = {"journal", "after_gap", "replaced", "unwritten", "misplaced", "damaged"}
-LEAST_DEMANDED = 2_000
+LEAST_DEMANDED, LEAST_UNKNOWN, LEAST_KINDS = 2_000, 500, 7
 DEMANDED = {"trip", "service_brake", "not_obeyed", "unreadable"}
 # Each image is listed with and without the other blocks.
 EACH = 5
@@ -95,7 +95,7 @@ class Count:
         print(f"events: {self.lines} lines of {self.images} listings compared field by field, {self.differ} differ; "
               f"{self.demanded} demands of a guard, {self.unknown} telegrams without the record before")
         few = self.lines < LEAST_LINES or self.images < LEAST_IMAGES or kinds != SOURCES or len(actions) < 11
-        few = few or min(self.demanded, self.unknown) < LEAST_DEMANDED or {what for what, _ in self.demands} != DEMANDED or len(self.demands) < 8
+        few = few or self.demanded < LEAST_DEMANDED or self.unknown < LEAST_UNKNOWN or {what for what, _ in self.demands} != DEMANDED or len(self.demands) < LEAST_KINDS
         if few:
             print(f"too little was tried: sources {sorted(kinds)}, {len(actions)} actions, demands {self.demands}")
         return 1 if few or self.differ else 0

@@ -5,7 +5,8 @@ from pathlib import Path
 
 from pycparser import c_ast
 
-NUMBERS = {"uint8_t": "Unsigned_8", "uint16_t": "Unsigned_16", "uint32_t": "Unsigned_32", "uint64_t": "Unsigned_64", "int64_t": "Integer_64"}
+NUMBERS = {"uint8_t": "Unsigned_8", "uint16_t": "Unsigned_16", "uint32_t": "Unsigned_32", "uint64_t": "Unsigned_64", "int64_t": "Integer_64",
+           "size_t": "Unsigned_64"}
 RESERVED = frozenset("""
 abort abs abstract accept access aliased all and array at begin body case constant declare delay delta digits do else
 elsif end entry exception exit for function generic goto if in interface is limited loop mod new not null of or others

@@ -40,7 +40,7 @@ done
 rows test_decode 291
 rows test_parts 2758
 rows test_modes 2613
-rows test_disk 532
+rows test_disk 502
 rows test_blocks 741
 rows test_journal 1100
 rows test_onboard 34585

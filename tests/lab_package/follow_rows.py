@@ -63,6 +63,16 @@ class Unit:
                 self.commit(file, number)
 
 
+def left(events, gone):
+    """The records of the blocks that aren't gone. What a guard demands isn't known where the record before is gone."""
+    begun = 0
+    for line in events:
+        if line["block"] not in gone:
+            is_alone = line["block"] > max(begun, 1) and line["block"] - 1 in gone
+            yield {**line, "demands": None} if is_alone and "demands" in line else line
+            begun = line["block"]
+
+
 def followed(rows, events, room, is_awaited):
     """A journal is followed while it grows."""
     by_number, image, kept, lines, locked = journal(), room / f"image-{is_awaited}", room / f"archive-{is_awaited}", [], []
@@ -84,7 +94,7 @@ def followed(rows, events, room, is_awaited):
     seen = [{key: value for key, value in line.items() if key != "byte"} for line in lines if "event" in line]
     gone = [number for line in lines if "overwritten" in line for number in range(line["overwritten"]["first_block"], line["overwritten"]["last_block"] + 1)]
     gone += range(1, seen[0]["block"])  # (before the first look)
-    rows.same("each record, but for those that are said to be overwritten", seen, [line for line in events if line["block"] not in gone])
+    rows.same("each record, but for those that are said to be overwritten", seen, list(left(events, gone)))
     rows.unless(not gone if is_awaited else len(gone) < last, f"overwritten: {gone}")
     if is_awaited:
         rows.same("the archive", data_in(kept), {number: data_of(by_number[number]) for number in range(1, last + 1)})

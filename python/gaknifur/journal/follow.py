@@ -44,8 +44,8 @@ def is_held(ring: Ring) -> bool:
     return any("FLOCK" in words and "WRITE" in words and file in words for words in map(str.split, lines))
 
 
-def records(ring: Ring, blocks: dict[int, bytes]) -> list[Json]:
-    """The records of some blocks, as `etcs_lab events` prints them for the image."""
+def records(ring: Ring, before: dict[int, bytes], blocks: dict[int, bytes]) -> list[Json]:
+    """The records of some blocks, as `etcs_lab events` prints them for the image. `before` has the block before them, if it is known."""
     found: list[Json] = []
 
     def step(line: Json) -> None:
@@ -57,32 +57,35 @@ def records(ring: Ring, blocks: dict[int, bytes]) -> list[Json]:
 
     with tempfile.TemporaryDirectory() as folder:
         path = Path(folder) / "image"
-        image_of(blocks, path)
+        image_of(before | blocks, path)
         run = objects(["events"], path, step)
         if run.status not in (WHOLE, NOT_WHOLE):
             raise run.failed(ring.path)
     return found
 
 
-def report_new(ring: Ring, last: int, step: Callable[[Json], None]) -> int:
-    """Calls `step` with the records of the blocks after `last`, and with the numbers of blocks that were overwritten before they were
+def report_new(ring: Ring, before: dict[int, bytes], step: Callable[[Json], None]) -> dict[int, bytes]:
+    """Calls `step` with the records of the blocks after one, and with the numbers of blocks that were overwritten before they were
     read. Returns the last block."""
-    run: dict[int, bytes] = {}
+    last, run = max(before, default=0), dict[int, bytes]()
 
     def report() -> None:
-        for line in records(ring, run) if run else []:
-            step(line)
-        run.clear()
+        nonlocal before, run
+        if run:
+            for line in records(ring, before, run):
+                step(line)
+            before, run = {last: run[last]}, {}
 
     for number, data in ring.blocks(last):
         if last and number > last + 1:
             report()
             step({"overwritten": {"first_block": last + 1, "last_block": number - 1}})
+            before = {}
         elif len(run) >= MOST_BLOCKS:
             report()
         run[number], last = data, number
     report()
-    return last
+    return before
 
 
 def follow(image: Path, step: Callable[[Json], None], archive: Path | None = None, seconds: float | None = None,
@@ -94,7 +97,7 @@ def follow(image: Path, step: Callable[[Json], None], archive: Path | None = Non
         if archive is not None:
             identity.keep(image, archive)
         kept = stack.enter_context(Archive(archive)) if archive is not None else None
-        end, last = None if seconds is None else time.monotonic() + seconds, 0
+        end, last = None if seconds is None else time.monotonic() + seconds, dict[int, bytes]()
         while True:
             goes_on = waits or is_held(ring)  # asked first, so that what a unit wrote last is still read
             if kept is not None:

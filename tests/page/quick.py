@@ -149,41 +149,32 @@ document.getElementById('viewer-chart').getBoundingClientRect();
 return performance.now() - begun;
 """
 FRAME = """
-const [frames, kind, part, done] = arguments, { viewer } = window.gaknifur.ask, chart = document.getElementById('viewer-chart'), axis = document.getElementById('viewer-axis');
+const [frames, kind, part] = arguments, { viewer } = window.gaknifur.ask, took = [];
+const chart = document.getElementById('viewer-chart'), axis = document.getElementById('viewer-axis');
 axis.value = kind;
 axis.dispatchEvent(new Event('change'));
 chart.scrollIntoView();
 viewer.zoom(part);
-const box = chart.getBoundingClientRect(), took = [], y = box.top + 90;
-let x = box.left + box.width / 2, last = 0, n = 0;
-const point = type => chart.dispatchEvent(new PointerEvent(type, { pointerId: 1, clientX: x, clientY: y, bubbles: true }));
-const next = now => {
-    if (n > 2) took.push(now - last);  // (the first ones draw the window of before)
-    last = now;
-    if (n++ === frames + 3) {
-        point('pointercancel');
-        const longest = Math.max(...[...chart.querySelectorAll('path')].map(one => one.getAttribute('d').length));
-        return done([took.sort((one, other) => one - other), longest]);
-    }
-    x += n % 16 < 8 ? 7 : -7;
-    if (n % 3) point('pointermove');
-    else chart.dispatchEvent(new WheelEvent('wheel', { deltaY: n % 2 ? 40 : -40, clientX: box.left + 0.6 * box.width, clientY: y, bubbles: true, cancelable: true }));
-    requestAnimationFrame(next);
-};
-point('pointerdown');
-requestAnimationFrame(next);
+for (let n = 0; n < frames; n++) {
+    const begun = performance.now();
+    n % 3 ? viewer.pan(n % 2 ? 0.05 : -0.04) : viewer.zoom(n % 2 ? 0.8 : 1.1);
+    viewer.drawNow();
+    chart.getBoundingClientRect();
+    took.push(performance.now() - begun);
+}
+return [took.sort((one, other) => one - other), Math.max(...[...chart.querySelectorAll('path')].map(one => one.getAttribute('d').length))];
 """
 
 
 def frames(browser: Browser, images: int) -> int:
-    """Drags and zooms, a frame after the other, as the browser paints them. On an idle machine a frame takes no longer than here, and no longer than all
-    threads of the browser together run for it: the smaller of both is in time for nine of ten frames, at the best of several tries."""
+    """Pans and zooms: how long the script and the layout of a frame take, without painting. The smaller of wall time and processor time is in time for
+    nine of ten frames, at the best of several tries."""
     count = 0
     for axis, part in (("moment", 1), ("moment", 0.1), ("place", 1), ("place", 0.001)):
         found: list[float] = []
         while not found or min(found) > SLOWER * FRAME_S and len(found) < TRIES:
             begun = processor_s(os.getpid())
-            took, longest = browser.run_later(FRAME, FRAMES, axis, part)
+            took, longest = browser.run(FRAME, FRAMES, axis, part)
             processor, wall = (processor_s(os.getpid()) - begun) / len(took), took[len(took) * 9 // 10] / 1000
             found.append(min(wall, processor))
             print(f"page: {images} image{'s' * (images > 1)}, {part:g} of all by {axis}: nine frames of ten in {1000 * wall:.0f} ms, half of them in"

@@ -5,7 +5,7 @@ ghost use Rattle.braking.specs.Approaches.{lowered};
 
 use crate::Target;
 use crate::seeking::permitted_before;
-use crate::speeds::{fits_summed, stops_within};
+use crate::speeds::{fits_summed, stopping_at_once, stops_within};
 use crate::summed::Summed;
 use brakes::Brakes;
 use std::marker::Model;
@@ -93,6 +93,16 @@ impl<'a, P: Profile<Permille>> Approach<'a, P> {
         );
         self.keep(sum);
         fits
+    }
+
+    /// Looks whether the train comes to a stop on the gradient on which its brakes act: then each target from there on is
+    /// known to fit. It costs the same whatever lies ahead.
+    pub fn look_for_stop(&mut self)
+        ensures { self.new ≡ self.old }
+    {
+        if let Some(sum) = stopping_at_once(self.front, self.speed, self.gradient, self.brakes) {
+            self.keep(sum);
+        }
     }
 
     /// Takes one more target: then the greatest speed up to the one so far that fits the target. A target whose speed

@@ -1,13 +1,15 @@
 //! Whether the brakes bring a speed down to that of a target before its place.
-ghost use Rattle.std.specs.Prelude.{◌≡◌, ℕ, ◌*◌, ◌-◌, ◌^◌, ◌<◌, ◌≤◌, ℤ, pos, ◌+ℤ◌, ◌-ℤ◌, ◌≤ℤ◌, ◌<ℤ◌, ◌↔◌, IsTrue, IsSome, IfSome, MatchOption, None};
+ghost use Rattle.std.specs.Prelude.{◌≡◌, ℕ, ◌*◌, ◌-◌, ◌^◌, ◌<◌, ◌≤◌, ℤ, pos, ◌+ℤ◌, ◌-ℤ◌, ◌≤ℤ◌, ◌<ℤ◌, ◌↔◌, IsTrue, IsSome, IfSome, MatchOption, Option, None, Some};
 ghost use Rattle.units.specs.Stretches.{natural};
+ghost use Rattle.track_store.specs.Profiles.{Lasts};
 ghost use Rattle.brakes.specs.Brakes.{reaction_way};
 ghost use Rattle.braking.specs.Braking.{fits, IsSummed};
 ghost use Rattle.braking.specs.Sums.{IsSummedBefore, IsStopping};
 
 use crate::Target;
+use crate::slowing::end_of_stretch;
 use crate::summed::Summed;
-use brakes::{Brakes, Reaction, reaction_way};
+use brakes::{Brakes, Reaction, reaction_way, slowing};
 use track_store::Profile;
 use units::{Cm, Mph, Permille};
 
@@ -92,6 +94,48 @@ pub fn stops_within(front: Cm, speed: Mph, brakes: &Brakes, sum: &Summed) -> boo
         return false;
     }
     front.get() + i64::from(reaction_way(brakes.reaction, speed)) <= sum.from.get()
+}
+
+/// What is taken off on the gradient on which the brakes act at a speed, up to where the train comes to a stop; None
+/// where it comes to none there. Places are centimetres, speeds metres per hour.
+pub fn stopping_at_once<P: Profile<Permille>>(
+    front: Cm,
+    speed: Mph,
+    gradient: &P,
+    brakes: &Brakes,
+) -> Option<Summed>
+    ensures { IfSome result (IsSummed (P.value gradient.now) brakes.now.deceleration) }
+{
+    let way = reaction_way(brakes.reaction, speed);
+    let start = Cm::new(front.get() + i64::from(way))?;
+    let here = gradient.piece(start, 0);
+    let slowing = slowing(brakes.deceleration, here.value);
+    let stop = stop_on(here.next, start, speed, slowing)?;
+    Some(Summed::none(stop).starts_evenly(slowing, start))
+}
+
+// Where a train comes to a stop whose brakes act at a place, where each centimetre slows alike up to another one; None
+// where it comes to none before that.
+fn stop_on(next: Option<Cm>, start: Cm, speed: Mph, slowing: u16) -> Option<Cm>
+    requires { slowing ≤ 549 }
+    ensures ahead { IfSome result (λ stop. start <ℤ stop) }
+    ensures near { IfSome result (λ stop. natural (stop -ℤ start) ≤ 2 ^ 43) }
+    ensures lasts { (value : ℤ → Option ℤ) → Lasts value start next → IfSome result (λ stop. Lasts value start (Some stop)) }
+{
+    let rate = 2592 * u64::from(slowing);
+    if rate == 0 {
+        return None;
+    }
+    let square = u64::from(speed.get()) * u64::from(speed.get());
+    let Ok(way) = u32::try_from(square / rate) else {
+        return None;
+    };
+    let stop = Cm::new(start.get() + i64::from(way) + 1)?;
+    if end_of_stretch(next, stop) == stop {
+        Some(stop)
+    } else {
+        None
+    }
 }
 
 /// What the brakes must take off the square of the speed, from one speed down to another, in (m/h)^2. The caller owes

@@ -1,6 +1,6 @@
 -- The targets that are held, and what they ask.
 use Rattle.std.proofs.Common.{◌≡◌, ℕ, zero, suc, ◌+◌, ◌<◌, ℤ, List, [], ◌∷◌, ◌++◌, length, take, drop, Bool, true, false, refl, ap, sym, ◌∙◌, arith}
-use Rattle.std.specs.Prelude.{Option, None, Some, ◌&&◌, slice_index_or, slice_set}
+use Rattle.std.specs.Prelude.{Option, None, Some, IfSome, ◌&&◌, slice_index_or, slice_set}
 use Rattle.std.proofs.lemmas.List.{append_assoc, append-nil, take_more, drop_more}
 use Rattle.track_store.specs.Profiles.{listed}
 use Rattle.braking.specs.declared.target.Target.{Target}
@@ -163,6 +163,22 @@ module _ {G : Type 0} (value : G → ℤ → Option ℤ) where
       let all : Bool = fits_all course.front (value course.gradient) course.brakes after v in
       let here = slower_fits course.front (value course.gradient) course.brakes t course.speed v below fit in
       h course.front (value course.gradient) course.brakes v ∙ ap (λ (b : Bool). b && all) here
+
+  -- .. nor does one, if there is one, that is no nearer than such a one
+  pub of_no_nearer : (near : Target) (reported : Option Target) (before after : List Target) (course : Course G) →
+      AskTheSame before (listed reported ++ after) → IfSome reported (IsNoNearer near) →
+      fits course.front (value course.gradient) course.brakes near course.speed ≡ true → AskTheSameOf (value course.gradient) course before after
+  of_no_nearer near None before after course h beyond fit = of_all before after course h
+  of_no_nearer near (Some t) before after course h beyond fit =
+      of_passed t before after course h (farther_fits course.front (value course.gradient) course.brakes near t course.speed beyond fit)
+
+  pub of_before : (some some' others : List Target) (course : Course G) → AskTheSameOf (value course.gradient) course some some' →
+      AskTheSameOf (value course.gradient) course (some ++ others) (some' ++ others)
+  of_before some some' others course h v below =
+      let fit = fits_all course.front (value course.gradient) course.brakes in
+      fit_both course.front (value course.gradient) course.brakes some others v
+      ∙ ap (λ (b : Bool). b && fit others v) (h v below)
+      ∙ sym (fit_both course.front (value course.gradient) course.brakes some' others v)
 
   of_beyond : (some others others' : List Target) (course : Course G) → AskTheSameOf (value course.gradient) course others others' →
       AskTheSameOf (value course.gradient) course (some ++ others) (some ++ others')

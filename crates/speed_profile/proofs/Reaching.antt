@@ -1,11 +1,12 @@
 -- Restrictions and mode areas by the first centimetre of each.
-use Rattle.std.proofs.Common.{◌≡◌, ℤ, pos, ◌+ℤ◌, ◌≤ℤ◌, List, [], ◌∷◌, ◌++◌, Bool, true, arith}
-use Rattle.std.specs.Prelude.{Option, None, Some, int_lt, not, ◌&&◌}
+use Rattle.std.proofs.Common.{◌≡◌, ℤ, pos, ◌+ℤ◌, ◌≤ℤ◌, List, [], ◌∷◌, ◌++◌, Bool, true, false, arith}
+use Rattle.std.specs.Prelude.{Option, None, Some, IfSome, int_lt, not, ◌&&◌, if◌then◌else◌}
 use Rattle.std.specs.Int.{int_max}
 use Rattle.std.proofs.lemmas.Int.{ints}
 use Rattle.track_store.specs.Profiles.{listed}
 use Rattle.restriction.specs.declared.restriction.Restriction.{Restriction}
 use Rattle.restriction.specs.Covering.{covers, end_of}
+use Rattle.braking.specs.declared.target.Target.{Target}
 use Rattle.areas.specs.declared.area.Area.{Area}
 use Rattle.areas.specs.declared.area.NationalSpeeds.{NationalSpeeds}
 use Rattle.areas.specs.Areas.{is_before, speed_in}
@@ -13,6 +14,7 @@ use Rattle.speed_profile.specs.Ahead.{greatest_place, over_ahead, restriction_ta
 use Rattle.speed_profile.specs.Starts.{first_covered, first_target, first_inside, first_in_area}
 use Rattle.speed_profile.specs.Targets.{AskTheSame, AskNothing}
 use Rattle.speed_profile.proofs.Covering.{one_asks, none_asks}
+use Rattle.speed_profile.proofs.Farther.{IsNoNearer}
 
 -- ---- restrictions
 
@@ -28,6 +30,9 @@ first_covers : (first mark start end : ℤ) →
     × ((not (int_lt (int_max (int_max first mark) start) mark) && not (int_lt (int_max (int_max first mark) start) start)
     && int_lt (int_max (int_max first mark) start) end) ≡ true)
 first_covers first mark start end h = (grind (arith, ints), grind (arith, ints), grind (arith, ints))
+
+not_before : (first start : ℤ) → start ≤ℤ int_max first start
+not_before first start = grind (arith, ints)
 
 module _ (front mark : ℤ) where
   has_track : Restriction → Bool
@@ -47,6 +52,15 @@ module _ (front mark : ℤ) where
       none_asks (front +ℤ pos 1) (covers mark) (λ r. r.speed) (first_covered front mark) has_track
       (λ r c low high h. covers_ahead (front +ℤ pos 1) mark c r.start (end_of r) low high h)
       (λ r h. first_covers (front +ℤ pos 1) mark r.start (end_of r) h)
+
+  -- none begins to ask before it begins
+  pub begins_ahead : (r : Restriction) → IfSome (first_target front mark r) (IsNoNearer (record { place = r.start; speed = r.speed }))
+  begins_ahead r =
+      let first = first_covered front mark r in
+      let near : Target = record { place = r.start; speed = r.speed } in
+      let cases : (b : Bool) → IfSome (if b then Some (record { place = first; speed = r.speed }) else None) (IsNoNearer near) =
+      elim [ true ↦ record { place = not_before (int_max (front +ℤ pos 1) mark) r.start; speed = omega arith } | false ↦ tt ] in
+      cases (int_lt first (end_of r) && not (int_lt greatest_place first))
 
 -- ---- mode areas
 

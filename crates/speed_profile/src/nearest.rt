@@ -34,6 +34,7 @@ pub fn lower_by_all<'a, S: Profile<CategorySpeeds>, G: Profile<Permille>>(
     ensures { approach.new ≡ lowered_by (G.value approach.old.gradient) (speeds.old.targets ++ others.old.targets) approach.old }
 {
     lower_by_piece(approach, speeds);
+    approach.look_for_stop();
     lower_by_others(approach, speeds, others);
     lower_by_speeds(approach, speeds);
 }
@@ -100,6 +101,7 @@ fn next_to_brake_for<'a, G: Profile<Permille>>(
     ensures requested { AskTheSameOf (G.value approach.now.gradient) approach.now others.old.targets (listed result ++ others.new.targets) }
     ensures none { result ≡ None → AskNothing others.new.targets }
 {
+    others.skip_fitting(approach);
     while let Some(target) = others.next() {
         if !approach.surely_fits(&target) {
             return Some(target);

@@ -4,15 +4,15 @@ ghost use Rattle.std.specs.Iterator.{at_most};
 ghost use Rattle.track_store.specs.Profiles.{listed};
 ghost use Rattle.speed_profile.specs.Ahead.{over_ahead, restriction_targets, area_targets};
 ghost use Rattle.speed_profile.specs.Track.{speeds_along};
-ghost use Rattle.speed_profile.specs.Targets.{Describes};
+ghost use Rattle.speed_profile.specs.Targets.{Describes, AskTheSameOf};
 
 use super::inside::AreaTargets;
 use super::restricted::RestrictionTargets;
 use crate::{CategorySpeeds, Track};
-use braking::Target;
+use braking::{Approach, Target};
 use std::marker::Model;
 use track_store::Profile;
-use units::Cm;
+use units::{Cm, Permille};
 
 /// Each restriction and each mode area at the first centimetre that it covers ahead of a front, and a last target, in
 /// any order.
@@ -53,6 +53,13 @@ impl<'a> OtherTargets<'a> {
             inside: AreaTargets::new(front, track.national, track.areas),
             last,
         }
+    }
+
+    /// Leaves out the restrictions that come next, up to one that a train isn't known to fit.
+    pub fn skip_fitting<G: Profile<Permille>>(&mut self, approach: &Approach<'_, G>)
+        ensures { AskTheSameOf (G.value approach.now.gradient) approach.now self.old.targets self.new.targets }
+    {
+        self.restricted.skip_fitting(approach);
     }
 }
 

@@ -2,13 +2,13 @@
 ghost use Rattle.std.specs.Prelude.{◌≡◌};
 ghost use Rattle.std.specs.Iterator.{at_most};
 ghost use Rattle.speed_profile.specs.Ahead.{over_ahead, restriction_targets};
-ghost use Rattle.speed_profile.specs.Targets.{Describes};
+ghost use Rattle.speed_profile.specs.Targets.{Describes, AskTheSameOf};
 
 use crate::starts::first_target;
-use braking::Target;
+use braking::{Approach, Target};
 use std::marker::Model;
-use track_store::{Restriction, Restrictions};
-use units::Cm;
+use track_store::{Profile, Restriction, Restrictions};
+use units::{Cm, Permille};
 
 /// Each restriction at the first centimetre that it covers ahead of a front.
 #[derive(Drop)]
@@ -39,6 +39,28 @@ impl<'a> RestrictionTargets<'a> {
             mark: restrictions.mark(),
             left: restrictions.as_slice(),
         }
+    }
+
+    /// Leaves out those that come next, up to one that a train isn't known to fit.
+    pub fn skip_fitting<G: Profile<Permille>>(&mut self, approach: &Approach<'_, G>)
+        ensures { AskTheSameOf (G.value approach.now.gradient) approach.now self.old.targets self.new.targets }
+    {
+        while let Some((first, others)) = self.left.split_first() {
+            if !approach.surely_fits(&start_of(first)) {
+                break;
+            }
+            self.left = others;
+        }
+    }
+}
+
+// Where a restriction begins, with its speed.
+fn start_of(restriction: &Restriction) -> Target
+    ensures { result ≡ record { place = restriction.now.start; speed = restriction.now.speed } }
+{
+    Target {
+        place: restriction.start,
+        speed: restriction.speed,
     }
 }
 

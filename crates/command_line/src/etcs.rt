@@ -6,6 +6,7 @@ ghost use Rattle.command_line.specs.Arguments.{IsApp};
 ghost use Rattle.command_line.specs.EtcsArguments.{values_of, etcs_values, matched_values, named_values};
 ghost use Rattle.command_line.specs.EtcsArguments as spec;
 
+use crate::adding::{with_arg, with_subcommand};
 use crate::matched::{u32_of, value_of};
 use clap::error::ErrorKind;
 use clap::{Arg, ArgMatches, Command, Error};
@@ -40,32 +41,32 @@ fn decode_app<'a>(alloc: Global) -> Result<Command<'a>, AllocError>
     ensures { IfOk result (IsApp spec.decode_app) }
 {
     let hex = Arg::new(alloc, "HEX").required(true);
-    Command::new(alloc, "decode").arg(hex)
+    with_arg(Ok(Command::new(alloc, "decode")), hex)
 }
 
 fn format_app<'a>(alloc: Global) -> Result<Command<'a>, AllocError>
     ensures { IfOk result (IsApp spec.format_app) }
 {
     let image = Arg::new(alloc, "IMAGE").required(true);
+    let format = with_arg(Ok(Command::new(alloc, "format")), image);
     let blocks = Arg::new(alloc, "BLOCKS").required(true);
-    let format = Command::new(alloc, "format").arg(image)?;
-    format.arg(blocks)
+    with_arg(format, blocks)
 }
 
 fn run_app<'a>(alloc: Global) -> Result<Command<'a>, AllocError>
     ensures { IfOk result (IsApp spec.run_app) }
 {
     let scenario = Arg::new(alloc, "SCENARIO").required(true);
+    let run = with_arg(Ok(Command::new(alloc, "run")), scenario);
     let image = Arg::new(alloc, "IMAGE").required(true);
-    let run = Command::new(alloc, "run").arg(scenario)?;
-    run.arg(image)
+    with_arg(run, image)
 }
 
 fn journal_app<'a>(alloc: Global) -> Result<Command<'a>, AllocError>
     ensures { IfOk result (IsApp spec.journal_app) }
 {
     let image = Arg::new(alloc, "IMAGE").required(true);
-    Command::new(alloc, "journal").arg(image)
+    with_arg(Ok(Command::new(alloc, "journal")), image)
 }
 
 // The program with no command yet.
@@ -82,14 +83,10 @@ fn bare_app<'a>(alloc: Global) -> Command<'a>
 fn etcs_app<'a>(alloc: Global) -> Result<Command<'a>, AllocError>
     ensures { IfOk result (IsApp spec.etcs_app) }
 {
-    let decode = decode_app(alloc)?;
-    let format = format_app(alloc)?;
-    let run = run_app(alloc)?;
-    let journal = journal_app(alloc)?;
-    let first = bare_app(alloc).subcommand(decode)?;
-    let second = first.subcommand(format)?;
-    let third = second.subcommand(run)?;
-    third.subcommand(journal)
+    let first = with_subcommand(Ok(bare_app(alloc)), decode_app(alloc));
+    let second = with_subcommand(first, format_app(alloc));
+    let third = with_subcommand(second, run_app(alloc));
+    with_subcommand(third, journal_app(alloc))
 }
 
 fn decode_command<'a>(matches: &ArgMatches<'a>) -> Option<EtcsCommand<'a>>

@@ -4,6 +4,7 @@ ghost use Rattle.std.specs.Prelude.{IfOk, codes};
 ghost use Rattle.command_line.specs.Arguments.{IsApp, IsArg, required};
 ghost use Rattle.command_line.specs.LabArguments as spec;
 
+use crate::adding::{with_arg, with_subcommand};
 use crate::version::VERSION;
 use clap::builder::ValueParser;
 use clap::{Arg, ArgAction, Command};
@@ -154,9 +155,9 @@ fn examine_app<'a>(alloc: Global) -> Result<Command<'a>, AllocError>
     let new = Command::new(alloc, "examine").about(
         "Examine a journal image and list what each slot holds, what is lost and what contradicts",
     );
-    let first = new.arg(json_arg(alloc))?;
-    let second = first.arg(slots_arg(alloc))?;
-    second.arg(image_arg(alloc))
+    let first = with_arg(Ok(new), json_arg(alloc));
+    let second = with_arg(first, slots_arg(alloc));
+    with_arg(second, image_arg(alloc))
 }
 
 fn events_app<'a>(alloc: Global) -> Result<Command<'a>, AllocError>
@@ -165,9 +166,9 @@ fn events_app<'a>(alloc: Global) -> Result<Command<'a>, AllocError>
     let new = Command::new(alloc, "events").about(
         "Print each event of a journal as a JSON object on its own line, the oldest first",
     );
-    let first = new.arg(all_arg(alloc))?;
-    let second = first.arg(slots_arg(alloc))?;
-    second.arg(image_arg(alloc))
+    let first = with_arg(Ok(new), all_arg(alloc));
+    let second = with_arg(first, slots_arg(alloc));
+    with_arg(second, image_arg(alloc))
 }
 
 fn replay_app<'a>(alloc: Global) -> Result<Command<'a>, AllocError>
@@ -176,9 +177,9 @@ fn replay_app<'a>(alloc: Global) -> Result<Command<'a>, AllocError>
     let new = Command::new(alloc, "replay").about(
         "Run each power cycle through the kernel again and print the first record that differs",
     );
-    let first = new.arg(json_arg(alloc))?;
-    let second = first.arg(slots_arg(alloc))?;
-    second.arg(image_arg(alloc))
+    let first = with_arg(Ok(new), json_arg(alloc));
+    let second = with_arg(first, slots_arg(alloc));
+    with_arg(second, image_arg(alloc))
 }
 
 fn check_app<'a>(alloc: Global) -> Result<Command<'a>, AllocError>
@@ -187,9 +188,9 @@ fn check_app<'a>(alloc: Global) -> Result<Command<'a>, AllocError>
     let new = Command::new(alloc, "check").about(
         "Examine and replay a journal image, and end with one line for both",
     );
-    let first = new.arg(json_arg(alloc))?;
-    let second = first.arg(slots_arg(alloc))?;
-    second.arg(image_arg(alloc))
+    let first = with_arg(Ok(new), json_arg(alloc));
+    let second = with_arg(first, slots_arg(alloc));
+    with_arg(second, image_arg(alloc))
 }
 
 fn why_app<'a>(alloc: Global) -> Result<Command<'a>, AllocError>
@@ -198,10 +199,10 @@ fn why_app<'a>(alloc: Global) -> Result<Command<'a>, AllocError>
     let new = Command::new(alloc, "why").about(
         "Explain each brake command and speed limit of a journal",
     );
-    let first = new.arg(json_arg(alloc))?;
-    let second = first.arg(slots_arg(alloc))?;
-    let third = second.arg(image_arg(alloc))?;
-    third.arg(event_arg(alloc))
+    let first = with_arg(Ok(new), json_arg(alloc));
+    let second = with_arg(first, slots_arg(alloc));
+    let third = with_arg(second, image_arg(alloc));
+    with_arg(third, event_arg(alloc))
 }
 
 fn decode_app<'a>(alloc: Global) -> Result<Command<'a>, AllocError>
@@ -210,8 +211,8 @@ fn decode_app<'a>(alloc: Global) -> Result<Command<'a>, AllocError>
     let new = Command::new(alloc, "decode").about(
         "Decode a telegram, as `etcs decode` does or as JSON",
     );
-    let first = new.arg(json_arg(alloc))?;
-    first.arg(hex_arg(alloc))
+    let first = with_arg(Ok(new), json_arg(alloc));
+    with_arg(first, hex_arg(alloc))
 }
 
 fn packets_app<'a>(alloc: Global) -> Result<Command<'a>, AllocError>
@@ -220,8 +221,8 @@ fn packets_app<'a>(alloc: Global) -> Result<Command<'a>, AllocError>
     let new = Command::new(alloc, "packets").about(
         "List the packets of a telegram by their names in issue 2.3.0, with fields and use",
     );
-    let first = new.arg(json_arg(alloc))?;
-    first.arg(hex_arg(alloc))
+    let first = with_arg(Ok(new), json_arg(alloc));
+    with_arg(first, hex_arg(alloc))
 }
 
 fn telegram_app<'a>(alloc: Global) -> Result<Command<'a>, AllocError>
@@ -230,9 +231,9 @@ fn telegram_app<'a>(alloc: Global) -> Result<Command<'a>, AllocError>
     let new = Command::new(alloc, "telegram").about(
         "Encode a telegram from JSON into hexadecimal digits",
     );
-    let first = new.arg(schema_arg(alloc))?;
-    let second = first.arg(installed_arg(alloc))?;
-    second.arg(file_arg(alloc))
+    let first = with_arg(Ok(new), schema_arg(alloc));
+    let second = with_arg(first, installed_arg(alloc));
+    with_arg(second, file_arg(alloc))
 }
 
 fn lint_app<'a>(alloc: Global) -> Result<Command<'a>, AllocError>
@@ -241,8 +242,8 @@ fn lint_app<'a>(alloc: Global) -> Result<Command<'a>, AllocError>
     let new = Command::new(alloc, "lint").about(
         "List the faults of a scenario, and what was probably not meant",
     );
-    let first = new.arg(json_arg(alloc))?;
-    first.arg(scenario_arg(alloc))
+    let first = with_arg(Ok(new), json_arg(alloc));
+    with_arg(first, scenario_arg(alloc))
 }
 
 fn run_app<'a>(alloc: Global) -> Result<Command<'a>, AllocError>
@@ -251,7 +252,7 @@ fn run_app<'a>(alloc: Global) -> Result<Command<'a>, AllocError>
     let new = Command::new(alloc, "run").about(
         "Run a scenario on an empty image in memory and print each output as JSON, with its causes",
     );
-    new.arg(scenario_arg(alloc))
+    with_arg(Ok(new), scenario_arg(alloc))
 }
 
 // What the help of `play` prints last.
@@ -276,10 +277,10 @@ fn play_app<'a>(alloc: Global) -> Result<Command<'a>, AllocError>
             "Run many scenarios, each on an empty journal in memory, and print a JSON line for each",
         )
         .after_help(PLAY_HELP);
-    let first = new.arg(journal_slots_arg(alloc))?;
-    let second = first.arg(outputs_arg(alloc))?;
-    let third = second.arg(folder_arg(alloc))?;
-    third.arg(scenarios_arg(alloc))
+    let first = with_arg(Ok(new), journal_slots_arg(alloc));
+    let second = with_arg(first, outputs_arg(alloc));
+    let third = with_arg(second, folder_arg(alloc));
+    with_arg(third, scenarios_arg(alloc))
 }
 
 // The program with no command yet.
@@ -302,34 +303,21 @@ fn bare_app<'a>(alloc: Global) -> Result<Command<'a>, AllocError>
 fn images_app<'a>(alloc: Global) -> Result<Command<'a>, AllocError>
     ensures { IfOk result (IsApp spec.images_app) }
 {
-    let bare = bare_app(alloc)?;
-    let examine = examine_app(alloc)?;
-    let events = events_app(alloc)?;
-    let replay = replay_app(alloc)?;
-    let check = check_app(alloc)?;
-    let why = why_app(alloc)?;
-    let first = bare.subcommand(examine)?;
-    let second = first.subcommand(events)?;
-    let third = second.subcommand(replay)?;
-    let fourth = third.subcommand(check)?;
-    fourth.subcommand(why)
+    let first = with_subcommand(bare_app(alloc), examine_app(alloc));
+    let second = with_subcommand(first, events_app(alloc));
+    let third = with_subcommand(second, replay_app(alloc));
+    let fourth = with_subcommand(third, check_app(alloc));
+    with_subcommand(fourth, why_app(alloc))
 }
 
 /// The program with all its commands.
 pub(crate) fn lab_app<'a>(alloc: Global) -> Result<Command<'a>, AllocError>
     ensures { IfOk result (IsApp spec.lab_app) }
 {
-    let images = images_app(alloc)?;
-    let decode = decode_app(alloc)?;
-    let packets = packets_app(alloc)?;
-    let telegram = telegram_app(alloc)?;
-    let lint = lint_app(alloc)?;
-    let run = run_app(alloc)?;
-    let play = play_app(alloc)?;
-    let first = images.subcommand(decode)?;
-    let second = first.subcommand(packets)?;
-    let third = second.subcommand(telegram)?;
-    let fourth = third.subcommand(lint)?;
-    let fifth = fourth.subcommand(run)?;
-    fifth.subcommand(play)
+    let first = with_subcommand(images_app(alloc), decode_app(alloc));
+    let second = with_subcommand(first, packets_app(alloc));
+    let third = with_subcommand(second, telegram_app(alloc));
+    let fourth = with_subcommand(third, lint_app(alloc));
+    let fifth = with_subcommand(fourth, run_app(alloc));
+    with_subcommand(fifth, play_app(alloc))
 }

@@ -2,6 +2,7 @@
 //! `clap`; and how `etcs_lab` ends (this project's profile).
 #![tactic(auto)]
 
+mod adding;
 mod etcs;
 mod lab;
 mod lab_app;

@@ -1,9 +1,7 @@
 use Rattle.std.proofs.Common.{◌≡◌, codes, rules}
-use Rattle.std.proofs.lemmas.Result.{IfOk-weaker}
 use Rattle.std.specs.Prelude.{false}
 use Rattle.clap.specs.Words.{rule_of}
 use Rattle.command_line.specs.Arguments.{required}
-use Rattle.command_line.proofs.Apps.{with_arg}
 use Rattle.command_line.proofs.etcs.run_app.Goals as goal
 
 pub returns : goal.returns
@@ -12,5 +10,5 @@ returns c =
     let first_plain : c.required-scenario.result.global ≡ false = search rules in
     let second_is : rule_of c.required-image.result ≡ required (codes "IMAGE") = search rules in
     let second_plain : c.required-image.result.global ≡ false = search rules in
-    let before = with_arg _ _ _ _ _ (record { is = c.new-3.ensures.app; local = c.new-3.ensures.local }) (record { is = first_is; plain = first_plain }) c.in_ok-run.ensures in
-    IfOk-weaker c.arg-2.result _ _ (λ command added. with_arg _ _ _ _ command before (record { is = second_is; plain = second_plain }) added) c.arg-2.ensures
+    let before = c.with_arg-run.ensures _ _ (record { is = c.new-2.ensures.app; local = c.new-2.ensures.local }) (record { is = first_is; plain = first_plain }) in
+    c.with_arg.ensures _ _ before (record { is = second_is; plain = second_plain })

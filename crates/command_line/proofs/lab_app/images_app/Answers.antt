@@ -1,11 +1,9 @@
-use Rattle.std.proofs.lemmas.Result.{IfOk-weaker}
-use Rattle.command_line.proofs.Apps.{with_sub}
 use Rattle.command_line.proofs.lab_app.images_app.Goals as goal
 
 pub returns : goal.returns
 returns c =
-    let first = with_sub _ _ _ _ _ c.in_ok-bare.ensures c.in_ok-examine.ensures c.in_ok-first.ensures in
-    let second = with_sub _ _ _ _ _ first c.in_ok-events.ensures c.in_ok-second.ensures in
-    let third = with_sub _ _ _ _ _ second c.in_ok-replay.ensures c.in_ok-third.ensures in
-    let fourth = with_sub _ _ _ _ _ third c.in_ok-check.ensures c.in_ok-fourth.ensures in
-    IfOk-weaker c.subcommand-5.result _ _ (λ command added. with_sub _ _ _ _ command fourth c.in_ok-why.ensures added) c.subcommand-5.ensures
+    let first = c.with_subcommand-first.ensures _ _ c.bare_app.ensures c.examine_app.ensures in
+    let second = c.with_subcommand-second.ensures _ _ first c.events_app.ensures in
+    let third = c.with_subcommand-third.ensures _ _ second c.replay_app.ensures in
+    let fourth = c.with_subcommand-fourth.ensures _ _ third c.check_app.ensures in
+    c.with_subcommand.ensures _ _ fourth c.why_app.ensures

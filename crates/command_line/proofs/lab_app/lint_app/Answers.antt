@@ -1,13 +1,12 @@
 use Rattle.std.proofs.Common.{codes, refl}
-use Rattle.std.proofs.lemmas.Result.{IfOk-weaker}
 use Rattle.clap.specs.Words.{App, new_app}
 use Rattle.command_line.specs.Arguments.{IsApp}
-use Rattle.command_line.proofs.Apps.{with_arg, with_setting}
+use Rattle.command_line.proofs.Apps.{with_setting}
 use Rattle.command_line.proofs.lab_app.lint_app.Goals as goal
 
 pub returns : goal.returns
 returns c =
     let named : IsApp (new_app (codes "lint")) c.new.result = record { is = c.new.ensures.app; local = c.new.ensures.local } in
     let new = with_setting (λ (a : App). a) _ _ c.about-new.result _ c.about-new.ensures refl refl named in
-    let first = with_arg _ _ _ _ _ new c.json_arg.ensures c.in_ok-first.ensures in
-    IfOk-weaker c.arg-2.result _ _ (λ command added. with_arg _ _ _ _ command first c.scenario_arg.ensures added) c.arg-2.ensures
+    let first = c.with_arg-first.ensures _ _ new c.json_arg.ensures in
+    c.with_arg.ensures _ _ first c.scenario_arg.ensures

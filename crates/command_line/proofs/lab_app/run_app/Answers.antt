@@ -1,12 +1,11 @@
 use Rattle.std.proofs.Common.{codes, refl}
-use Rattle.std.proofs.lemmas.Result.{IfOk-weaker}
 use Rattle.clap.specs.Words.{App, new_app}
 use Rattle.command_line.specs.Arguments.{IsApp}
-use Rattle.command_line.proofs.Apps.{with_arg, with_setting}
+use Rattle.command_line.proofs.Apps.{with_setting}
 use Rattle.command_line.proofs.lab_app.run_app.Goals as goal
 
 pub returns : goal.returns
 returns c =
     let named : IsApp (new_app (codes "run")) c.new.result = record { is = c.new.ensures.app; local = c.new.ensures.local } in
     let new = with_setting (λ (a : App). a) _ _ c.about-new.result _ c.about-new.ensures refl refl named in
-    IfOk-weaker c.arg.result _ _ (λ command added. with_arg _ _ _ _ command new c.scenario_arg.ensures added) c.arg.ensures
+    c.with_arg.ensures _ _ new c.scenario_arg.ensures

@@ -1,8 +1,8 @@
 // What was driven as a test case in YAML, as `./lab test` reads it (docs/reference/test-cases.md): the lives step by
 // step, and as expected results what the unit answered where mode or brake changed and where a life ended.
-import {Output} from "./layouts";
+import {BRAKE_WORDS, Output} from "./layouts";
 import {Scenario, Step} from "./life";
-import {levelText, modeWord} from "./shown";
+import {indicationWords, levelText, modeWord} from "./shown";
 import {CASE_WORDS} from "./texts";
 
 /** A life that was driven. */
@@ -12,7 +12,7 @@ export interface Driven {
     isTorn: boolean
 }
 
-const { alone, confirmed, acknowledged, cold, brakes, indications } = CASE_WORDS;
+const { alone, confirmed, acknowledged, cold } = CASE_WORDS;
 
 function actionText([code = 0, ...values]: (number|string)[]): string {
     const number = Number(values[0]);
@@ -38,10 +38,9 @@ function stepText(step: Step): string {
 
 /** A record as an expected result has it. */
 function answer(output: Output): string {
-    const shown = indications.filter(([bit]) => output.indications & bit).map(([, word]) => word);
     const level = output.level === 255 ? "unknown" : levelText(output.level);
-    return `{mode: ${modeWord(output.mode)}, level: ${level}, brake: ${brakes[output.brake]}, limit_m_per_h: ${
-        output.limit}, indications: [${shown.join(", ")}]}`;
+    return `{mode: ${modeWord(output.mode)}, level: ${level}, brake: ${BRAKE_WORDS[output.brake]}, limit_m_per_h: ${
+        output.limit}, indications: [${indicationWords(output.indications).join(", ")}]}`;
 }
 
 /** The lines of a life's steps, and those of what is expected of it. */

@@ -5,9 +5,10 @@ import {Braking} from "./braking";
 import {Records} from "./calls";
 import {at, make, save, svg} from "./dom";
 import {AskedImage} from "./image";
-import {JournalRecord} from "./layouts";
+import {BRAKE_WORDS, JournalRecord, MODES} from "./layouts";
 import {Note} from "./notes";
-import {MODES, VERDICTS} from "./texts";
+import {indicationWords} from "./shown";
+import {VERDICTS} from "./texts";
 import {iso, Utc} from "./times";
 import {Seen} from "./viewer";
 
@@ -21,8 +22,6 @@ export interface Findings {
 
 // The names of `etcs_lab events` (docs/reference/json.md).
 const KINDS = ["", "powerup", "telegram", "odometer", "clock", "driver"];
-const BRAKES = ["none", "service", "emergency"];
-const INDICATIONS = ["on_sight", "shunting", "level_0", "trip", "overridden", "not_revalidated", "overspeed"];
 /** The status of `lab check` where it finds something. */
 const NOT_WHOLE = 4;
 const COLUMNS = [
@@ -42,8 +41,8 @@ function rowOf(record: JournalRecord, speed: number, utc: Utc|null): Row {
         utc_uncertainty_ms: utc && utc.uncertainty,
         mode: MODES[record.mode]?.[0] ?? "",
         level: record.level === 255 ? null : record.level,
-        brake: BRAKES[record.brake] ?? "",
-        indications: INDICATIONS.filter((_, bit) => record.indications & 1 << bit),
+        brake: BRAKE_WORDS[record.brake] ?? "",
+        indications: indicationWords(record.indications),
         place_cm: record.hasPlace ? record.front : null,
         uncertainty_cm: record.hasPlace ? record.uncertainty : null,
         limit_m_per_h: record.hasPlace ? record.limit : null,
@@ -89,7 +88,7 @@ function jsonOf({ image, records, notes }: Findings): string {
     const interventions = image.interventions.filter(one => !one.isPowerUp).map(one => ({
         first_event: records.event(one.first),
         last_event: records.event(one.last),
-        commands: one.steps.map(({ brake }) => BRAKES[brake] ?? ""),
+        commands: one.steps.map(({ brake }) => BRAKE_WORDS[brake] ?? ""),
         causes: causeTextsOf(one.steps.map(({ index }) => causes.get(index))),
     }));
     return JSON.stringify({

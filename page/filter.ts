@@ -1,7 +1,8 @@
 // The filter of the events: their kinds, the brake commands after them, and the modes.
 import {at, make} from "./dom";
+import {MODES} from "./layouts";
 import {Signals} from "./signals";
-import {BRAKES, KINDS, MODES} from "./texts";
+import {BRAKES, KINDS} from "./texts";
 import {VIEW} from "./wording";
 
 const PARTS = ["kind", "brake", "mode"] as const;

@@ -1,8 +1,8 @@
 // Events, causes and numbers as people read them.
-import {JournalRecord, Kept, ODOMETER, POWER_UP, TELEGRAM, Why} from "./layouts";
+import {CAUSES, INDICATIONS, JournalRecord, Kept, LIMITS, MODES, ODOMETER, POWER_UP} from "./layouts";
+import {TELEGRAM, TRIPS, Why} from "./layouts";
 import {hexOf} from "./hex";
-import {BRAKES, CAUSES, DATUM, INDICATIONS, KINDS_OWED, LIMITS, MODES} from "./texts";
-import {PLAIN_ACTIONS, SAY, SUBJECTS, TRIPS, WORDS} from "./texts";
+import {BRAKES, DATUM, KINDS_OWED, PLAIN_ACTIONS, SAY, SUBJECTS, WORDS} from "./texts";
 
 export function kmh(speed: number): string { return (speed / 1000).toFixed(1); }
 /** A speed; NaN is one that no reading gives. */
@@ -27,7 +27,11 @@ export function modeWord(mode: number): string { return MODES[mode]?.[0] ?? `${m
 export function levelText(level: number): string { return level === 255 ? "–" : String(level); }
 export function brakeText(brake: number): string { return BRAKES[brake] ?? `brake ${brake}`; }
 export function indicationTexts(sum: number): string[] {
-    return INDICATIONS.filter(([bit]) => sum & bit).map(([, text]) => text);
+    return INDICATIONS.filter(([bit]) => sum & bit).map(([, , text]) => text);
+}
+/** The words of `etcs_lab` and of test cases. */
+export function indicationWords(sum: number): string[] {
+    return INDICATIONS.filter(([bit]) => sum & bit).map(([, word]) => word);
 }
 
 export function trainText(numbers: [number, number, number, number, number]): string {

@@ -1,85 +1,8 @@
-// All texts of the page. The words of causes, trips and limits are those of `etcs_lab why` (docs/explain/brakes.md).
+// The texts of the page, but for those that layouts.ts has.
+import {MODES} from "./layouts";
 
-export const MODES: Record<number, [string, string]> = {
-    0: ["FS", "Full Supervision"],
-    1: ["OS", "On Sight"],
-    2: ["SR", "Staff Responsible"],
-    3: ["SH", "Shunting"],
-    4: ["UN", "Unfitted"],
-    6: ["SB", "Stand By"],
-    7: ["TR", "Trip"],
-    8: ["PT", "Post Trip"],
-    9: ["SF", "System Failure"],
-};
 export const BRAKES = ["no brake", "service brake", "emergency brake"];
 export const KINDS = ["", "power-up", "telegram", "odometer", "clock", "driver"];
-export const INDICATIONS: [number, string][] = [
-    [1, "acknowledge On Sight"],
-    [2, "acknowledge Shunting"],
-    [4, "acknowledge level 0"],
-    [8, "trip outstanding"],
-    [16, "override"],
-    [32, "not revalidated"],
-    [64, "above the limit"],
-];
-export const CAUSES: [string, string][] = [
-    ["the driver has not revalidated since the power-up", "ends when the driver has revalidated"],
-    ["the mode is Trip", "ends when the driver acknowledges the trip at standstill"],
-    ["the mode is System Failure", "ends at a power-up alone"],
-    ["a trip is not acknowledged", "ends when the driver acknowledges the trip at standstill"],
-    [
-        "the speed was above the limit by more than 10 km/h, and the train has not stood since",
-        "ends when the train stands"
-    ],
-    [
-        "the train rolled backward too far since it stood",
-        "ends when the train stands, or a greater D_NVROLL comes into force"
-    ],
-    [
-        "linking or a balise group asked for the service brake, and the train has not stood since",
-        "ends when the train stands"
-    ],
-    [
-        "the speed was above the limit by more than 5 km/h, and not within it since",
-        "ends when the speed is within the limit"
-    ],
-    ["the train moves where it must stand", "ends when the train stands, or in another mode"],
-    [
-        "an acknowledgement has been owed for 5 s or longer",
-        "ends when the driver acknowledges, a mode deletes it, or a further transition begins it anew"
-    ],
-];
-export const TRIPS = [
-    "it was tripped before the power-up, and why isn't known",
-    "the minimum safe front was past the end of authority (4.6.3)",
-    "linking or a balise group asked for it (3.4.4, 3.16.2)",
-    "an authority with V_MAIN 0 was used (3.11.6)",
-    "the path in Staff Responsible was above D_NVSTFF (4.4)",
-    "the level was 1, and the authority or the track ahead was not known (5.10)",
-];
-export const LIMITS: [string, string][] = [
-    ["", ""],
-    ["no train may run in this mode", "4.4"],
-    ["the train data are not valid", "this project's profile"],
-    ["the limit is the national value V_NVSTFF", "3.11.7, 3.18.2"],
-    ["an override is active, and the limit is the national value V_NVSUPOVTRP", "3.11.7, 3.18.2"],
-    ["the limit is the national value V_NVSHUNT", "3.11.7, 3.18.2"],
-    ["the limit is the national value V_NVUNFIT", "3.11.7, 3.18.2"],
-    ["the limit is the greatest speed of the train", "3.11.8"],
-    ["the limit is V_MAIN of the authority", "3.11.6"],
-    ["the limit is V_LOA, the end of authority being reached", "3.8"],
-    ["the limit is the static speed over the train", "3.11.3"],
-    ["the limit is that of a temporary speed restriction over the train", "3.11.5"],
-    ["the limit is that of a mode area over the train", "3.12.4"],
-    ["the limit is that of a static speed ahead", "3.11.3, 3.13"],
-    ["the limit is that of a stop where no static speed is known", "3.11.3, 3.13"],
-    ["the limit is that of a temporary speed restriction ahead", "3.11.5, 3.13"],
-    ["the limit is that of a mode area ahead", "3.12.4, 3.13"],
-    ["the limit is that of the end of authority", "3.8, 3.13"],
-    ["the limit is that of the supervised location", "3.8, 3.13"],
-    ["the limit is the release speed of the authority", "3.8, 3.13"],
-    ["the limit is the national release speed V_NVREL", "3.8, 3.13"],
-];
 /** The first cause of a limit that lies ahead, and the two release speeds. */
 export const AHEAD = 13, RELEASE = 19, NATIONAL_RELEASE = 20;
 
@@ -315,11 +238,6 @@ export const CASE_WORDS = {
     confirmed: ["", "identity", "running_number", "train_data", "level"],
     acknowledged: ["", "trip", "on_sight", "shunting", "level_0"],
     cold: ["unknown", "moved", "not_moved"],
-    brakes: ["none", "service", "emergency"],
-    indications: [
-        [1, "on_sight"], [2, "shunting"], [4, "level_0"], [8, "trip"], [16, "overridden"], [32, "not_revalidated"],
-        [64, "overspeed"]
-    ] as [number, string][],
 };
 
 export const MISSION =

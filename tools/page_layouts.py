@@ -1,5 +1,7 @@
-"""Writes page/layouts.ts for tools/page: the structs of the headers as the page reads them, with the offsets of gaknifur.units._header."""
+"""Writes page/layouts.ts for tools/page: the structs of the headers as the page reads them, with the offsets of gaknifur.units._header,
+and the words and texts of modes, brakes, indications and causes that the package has too."""
 import ctypes
+import json
 import os
 import re
 import sys
@@ -7,6 +9,7 @@ from pathlib import Path
 
 TOP = Path(__file__).resolve().parent.parent
 sys.path.insert(0, str(TOP / "python"))
+from gaknifur.journal import _words, causes, wording  # noqa: E402
 from gaknifur.units import _header  # noqa: E402
 
 FILE = TOP / "page/layouts.ts"
@@ -27,8 +30,8 @@ demand Demand etcs_demand: demanded finding
 why Why etcs_why: event since tripEvent backward allowedBackward causeAt=limit_cause_cm|has_place restriction|has_restriction limit speed causeSpeed=limit_cause_m_per_h holds? brake tripCause limitCause
 """
 SUFFIXES = ("", "_cm", "_ms", "_m_per_h", "_cm_per_s2", "_event")
-HEAD = """// The structs of include/etcs_unit.h, etcs_image.h and etcs_guard.h, as the calls write them, and the readers of their
-// bytes. All numbers are little-endian. Written by tools/page_layouts.py.
+HEAD = """// The structs of include/etcs_unit.h, etcs_image.h and etcs_guard.h, as the calls write them, the readers of their bytes,
+// and the words and texts of numbers. All numbers are little-endian. Written by tools/page_layouts.py.
 """
 READER = """
 /**
@@ -103,6 +106,26 @@ def member(struct, text):
     return name, kind, value
 
 
+def table(says, name, kind, rows):
+    """A constant with a list."""
+    return "\n".join([f"/** {says} */", f"export const {name}: {kind}[] = [", *(f"    {json.dumps(row, ensure_ascii=False)}," for row in rows), "];"])
+
+
+def words():
+    """The constants with words and texts."""
+    modes = {name.upper().replace(" ", "_"): (letters, name) for letters, name in wording.MODES.items()}
+    trips = [causes.TRIP_BEFORE, *(f"{says} ({section})" for says, section in _words.TRIP_CAUSES.values())]
+    rows = ",\n".join(f"    {mode:d}: {json.dumps(modes[mode.name])}" for mode in _header.Mode)
+    signs = zip(_header.Indication, wording.INDICATIONS.items(), strict=True)
+    yield f"/** The letters and the name of each mode. */\nexport const MODES: Record<number, [string, string]> = {{\n{rows}\n}};"
+    yield table("Each brake command as `etcs_lab` and test cases have it.", "BRAKE_WORDS", "string", [one.name.lower() for one in _header.Brake])
+    yield table("Each indication: its number, its word there, and its text.", "INDICATIONS", "[number, string, string]",
+                [(int(sign), *texts) for sign, texts in signs])
+    yield table("Each cause of a brake, and how it ends.", "CAUSES", "[string, string]", _words.CAUSES.values())
+    yield table("Why the train was tripped.", "TRIPS", "string", trips)
+    yield table("Each kind of what decides a limit, and its sections.", "LIMITS", "[string, string]", [("", ""), *_words.LIMIT_CAUSES.values()])
+
+
 def text():
     """The text of page/layouts.ts."""
     interfaces, readers = [], []
@@ -119,7 +142,7 @@ def text():
     sizes |= {"journal": ctypes.sizeof(_header.etcs_journal), "unit": ctypes.sizeof(_header.etcs_unit), "room": _header.REQUEST_BYTES}
     kinds = ", ".join(f"{one} = {_header.Kind[one]:d}" for one in ("POWER_UP", "TELEGRAM", "ODOMETER", "DRIVER"))
     modes = ", ".join(f"{one} = {_header.Mode[one]:d}" for one in ("STAND_BY", "TRIP"))
-    return "\n".join([HEAD, *interfaces, f"\nexport const SECTOR = {_header.SECTOR};", "/** The kinds of events that the page looks for. */",
+    return "\n".join([HEAD, *interfaces, "", *words(), f"\nexport const SECTOR = {_header.SECTOR};", "/** The kinds of events that the page looks for. */",
                       f"export const {kinds};", "/** The modes Stand By and Trip. */", f"export const {modes};", "export const BYTES = {",
                       *(f"    {name}: {size}," for name, size in sizes.items()), "};", READER, "\n\n".join(readers), "}\n"])
 

@@ -121,20 +121,17 @@ static uint32_t take(const char *line) {
 
 /* The answer: what the journal's last record says, which that of a power-up reports too. */
 static void answer(void) {
-    static const char *const modes[] = {"FS", "OS", "SR", "SH", "UN", "", "SB", "TR", "PT", "SF"};
-    static const char *const brakes[] = {"none", "service", "emergency"};
-    static const char *const signs[] = {"on_sight", "shunting", "level_0", "trip", "overridden", "not_revalidated", "overspeed"};
     etcs_journal journal;
     etcs_record last;
     const char *between = "";
     if (etcs_journal_open(medium, sizeof medium, &journal) == ETCS_UNIT_OK)
         while (etcs_journal_next(medium, sizeof medium, &journal, &last) == ETCS_UNIT_OK) {}
-    printf("{\"event\":%" PRIu64 ",\"mode\":\"%s\",\"level\":", last.event, modes[last.mode]);
+    printf("{\"event\":%" PRIu64 ",\"mode\":\"%s\",\"level\":", last.event, etcs_mode_name(last.mode));
     printf(last.level == ETCS_LEVEL_INVALID ? "null" : last.level == ETCS_LEVEL_1 ? "1" : "0");
-    printf(",\"brake\":\"%s\",\"indications\":[", brakes[last.brake]);
-    for (int i = 0; i < 7; i++)
-        if (last.indications >> i & 1) {
-            printf("%s\"%s\"", between, signs[i]);
+    printf(",\"brake\":\"%s\",\"indications\":[", etcs_brake_name(last.brake));
+    for (uint32_t sign = ETCS_SHOWS_ON_SIGHT; sign <= ETCS_SHOWS_OVERSPEED; sign *= 2)
+        if (last.indications & sign) {
+            printf("%s\"%s\"", between, etcs_indication_name(sign));
             between = ",";
         }
     printf("],\"place_cm\":%" PRId64 ",\"uncertainty_cm\":%" PRIu64 ",\"limit_m_per_h\":%" PRIu32 "}\n", last.front_cm,

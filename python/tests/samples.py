@@ -4,7 +4,7 @@ import unittest
 from pathlib import Path
 from typing import Any
 
-from gaknifur.journal.causes import CAUSES
+from gaknifur.journal._words import CAUSES
 from gaknifur.journal.reading import Journal, Json
 
 AUTHORITY: Json = {

@@ -10,7 +10,7 @@ import pandas as pd
 
 import gaknifur.journal.tables as tables
 from gaknifur.journal import charts, database, follow, report, summary, verdict, wording
-from gaknifur.journal.causes import CAUSES
+from gaknifur.journal._words import CAUSES
 from gaknifur.journal.extent import Extent, bound
 from gaknifur.journal.reading import Journal, Json
 from gaknifur.program import Failed

@@ -21,14 +21,15 @@ import click
 from gaknifur.__main__ import main
 from gaknifur.cli.commands import COMPLETE, Command, lab
 from gaknifur.cli.progress import Terminal
-from gaknifur.journal.causes import CAUSES
+from gaknifur.journal._words import CAUSES, LIMIT_CAUSES, TRIP_CAUSES
 from gaknifur.journal.plausibility import Thresholds
 from gaknifur.journal.reading import Json
 from gaknifur.journal.wording import INDICATIONS
+from gaknifur.lives import BrakeCause, LimitCause, TripCause
 from gaknifur.testing import case_runner, cases_together, measured_coverage
 from gaknifur.testing.case_runner import Keep, Played, with_speeds
 from gaknifur.testing.cases import Case
-from gaknifur.unit import BrakeCause, Indication
+from gaknifur.unit import Indication
 from gaknifur.units.other_unit import WITHIN_S
 
 from .samples import InFolder, journal, record
@@ -194,14 +195,10 @@ class Sets(unittest.TestCase):
         self.assertEqual(list(INDICATIONS), list(wanted.values()))
         columns = re.findall(r"^ +shows_(\w+) ", (top / "python/gaknifur/journal/schema.sql").read_text(encoding="utf-8"), re.MULTILINE)
         self.assertEqual(columns, list(wanted.values()))
-        lists = re.findall(r"indications: \[\n(.*?)\n +\] as|INDICATIONS: [^=]*= \[\n(.*?)\n\];",
-                           (top / "page/texts.ts").read_text(encoding="utf-8"), re.DOTALL)
-        pairs = [re.findall(r'\[(\d+), "([^"]*)"\]', words or texts) for words, texts in lists]
-        self.assertEqual([[int(number) for number, _ in one] for one in pairs], [list(wanted)] * 2)
-        self.assertIn(list(wanted.values()), [[word for _, word in one] for one in pairs])
 
     def test_of_causes(self) -> None:
-        self.assertEqual(list(CAUSES), [one.name.lower() for one in BrakeCause])
+        for words, numbers in ((CAUSES, BrakeCause), (LIMIT_CAUSES, LimitCause), (["unknown", *TRIP_CAUSES], TripCause)):
+            self.assertEqual(list(words), [one.name.lower() for one in numbers])
 
 
 class Names(unittest.TestCase):

@@ -28,7 +28,7 @@ sys.path[:0] = [str(TOP / part) for part in ("python", "tests", "tests/events", 
 import pandas as pd  # noqa: E402
 from compared import Compared  # noqa: E402
 from gaknifur import program  # noqa: E402
-from gaknifur.journal import causes, database, reading, report, tables  # noqa: E402
+from gaknifur.journal import _words, causes, database, reading, report, tables  # noqa: E402
 from gaknifur.program import Run  # noqa: E402
 from replay import replayed  # noqa: E402
 from replay_rows import damaged, examples, formats, random_lives  # noqa: E402
@@ -349,7 +349,7 @@ def causes_agree(room):
         met |= {cause for _, held, _ in wanted for cause, _ in held}
     connection.close()
     print(f"lab: causes of {known} interventions, and {unknown} of which they aren't known: {count.count} comparisons, {count.differ} differ")
-    few = known < LEAST_KNOWN or unknown < LEAST_UNKNOWN or len(met) < len(causes.CAUSES) - 1  # no image leads to System Failure
+    few = known < LEAST_KNOWN or unknown < LEAST_UNKNOWN or len(met) < len(_words.CAUSES) - 1  # no image leads to System Failure
     few = few or len(tripped) < LEAST_TRIPS
     if few:
         print(f"too little was tried; causes that came: {sorted(met)}, {sorted(tripped)}")
@@ -384,9 +384,9 @@ def words_agree(count, name, path):
     trip = re.compile(r"^  the train was tripped: ([^()]*) \(event \d+, ([^()]*)\)")
     lines = list(Run(["why"], path).lines())
     said = {pair for text in lines for pair in line.findall(text)}
-    count.same(f"{name}, words", said <= set(causes.CAUSES.values()), True)
+    count.same(f"{name}, words", said <= set(_words.CAUSES.values()), True)
     trips = {pair for text in lines for pair in trip.findall(text)}
-    count.same(f"{name}, words of trips", trips <= set(causes.TRIP_CAUSES.values()), True)
+    count.same(f"{name}, words of trips", trips <= set(_words.TRIP_CAUSES.values()), True)
     return trips
 
 

@@ -9,18 +9,14 @@ from typing import Any
 from browsing import Browser
 from desks import TOP, etcs, random_steps
 from gaknifur import program
+from gaknifur.journal import _words
 
 ALTERED = 200
 STATES = ("empty", "block", "unreadable", "misplaced", "foreign", "unwritten", "replaced", "remains")
 RECORD = ("", "event", "word", "time_ms", "mode", "level", "brake", "indications", "place", "place_cm", "uncertainty_cm", "limit_m_per_h")
 HEAD = ("", "events", "lives", "trip_outstanding", "identity", "running_number", "train", "level", "position", "national_values", "countries")
 REASONS = {4: "before_oldest_block", 5: "gap", 6: "within_block", 7: "after_difference"}
-CAUSES = ("not_revalidated", "in_trip", "in_system_failure", "owes_trip", "far_too_fast", "rolled_too_far", "service_brake_requested", "too_fast",
-          "must_stand", "owes_too_long")
-LIMITS = ("", "no_speed", "no_train_data", "national_staff_responsible", "national_override", "national_shunting", "national_unfitted",
-          "train_maximum", "main_speed", "end_speed", "static_speed", "restriction", "mode_area", "static_speed_ahead", "unknown_speed_ahead",
-          "restriction_ahead", "mode_area_ahead", "end_of_authority", "supervised_location", "release_speed", "national_release_speed")
-TRIPS = (None, "end_passed", "linking", "stop", "staff_distance", "level")
+CAUSES, LIMITS, TRIPS = tuple(_words.CAUSES), ("", *_words.LIMIT_CAUSES), (None, *_words.TRIP_CAUSES)
 SECTOR, SLOT = 512, 6 * 512
 
 

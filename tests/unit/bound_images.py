@@ -14,11 +14,11 @@ sys.path[:0] = [str(HERE.parents[1] / part) for part in ("tests", "tests/plain",
 import examined  # noqa: E402
 from compared import Compared, objects, run  # noqa: E402
 from gaknifur.lives import BrakeCause  # noqa: E402
+from journal import SIGNS  # noqa: E402
 from replay_rows import altered, damaged, examples, formats, random_lives  # noqa: E402
 from why import walked  # noqa: E402
 
 EVERY, LEAST = 47, 150  # so many altered bytes are passed over; so many images at least
-INDICATIONS = ("on_sight", "shunting", "level_0", "trip", "overridden", "not_revalidated", "overspeed")
 
 
 def images():
@@ -52,7 +52,7 @@ def slot_lines(said, data):
 
 def record_lines(record, data, reasons):
     """A record with its payload, which is in the image after the record's other fields, and why it commands a brake."""
-    at, indications = record["byte"], sum(1 << INDICATIONS.index(name) for name in record["indications"])
+    at, indications = record["byte"], sum(1 << SIGNS.index(name) for name in record["indications"])
     first = at + (24 if record["limit_m_per_h"] is None else 48)
     payload = data[first:first + data[at + 3]].hex()
     level = "-" if record["level"] is None else record["level"]

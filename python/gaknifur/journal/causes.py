@@ -9,32 +9,9 @@ import bisect
 from collections.abc import Iterable, Iterator
 from dataclasses import dataclass
 
+from ._words import CAUSES, TRIP_CAUSES
 from .reading import Journal, Json
 
-CAUSES = {
-    "not_revalidated": ("the driver has not revalidated since the power-up", "ends when the driver has revalidated"),
-    "in_trip": ("the mode is Trip", "ends when the driver acknowledges the trip at standstill"),
-    "in_system_failure": ("the mode is System Failure", "ends at a power-up alone"),
-    "owes_trip": ("a trip is not acknowledged", "ends when the driver acknowledges the trip at standstill"),
-    "far_too_fast": ("the speed was above the limit by more than 10 km/h, and the train has not stood since",
-                     "ends when the train stands"),
-    "rolled_too_far": ("the train rolled backward too far since it stood",
-                       "ends when the train stands, or a greater D_NVROLL comes into force"),
-    "service_brake_requested": ("linking or a balise group asked for the service brake, and the train has not stood since",
-                          "ends when the train stands"),
-    "too_fast": ("the speed was above the limit by more than 5 km/h, and not within it since",
-                 "ends when the speed is within the limit"),
-    "must_stand": ("the train moves where it must stand", "ends when the train stands, or in another mode"),
-    "owes_too_long": ("an acknowledgement has been owed for 5 s or longer",
-                      "ends when the driver acknowledges, a mode deletes it, or a further transition begins it anew")}
-"""The meaning of each cause and how it ends, in the order of the brake table and the wording of `etcs_lab why`."""
-TRIP_CAUSES = {
-    "end_passed": ("the minimum safe front was past the end of authority", "4.6.3"),
-    "linking": ("linking or a balise group asked for it", "3.4.4, 3.16.2"),
-    "stop": ("an authority with V_MAIN 0 was used", "3.11.6"),
-    "staff_distance": ("the path in Staff Responsible was above D_NVSTFF", "4.4"),
-    "level": ("the level was 1, and the authority or the track ahead was not known", "5.10")}
-"""The meaning of each cause of a trip, in the wording of `etcs_lab why`, and its sections of SUBSET-026."""
 TRIP_BEFORE = "it was tripped before the power-up, and why isn't known"
 LIMIT_CAUSE = "limit_cause"
 """The member with the kind of what decides the limit; members that begin with it have details."""

@@ -15,7 +15,7 @@ import pandas as pd
 from .. import files, program
 from ..evidence import times
 from ..program import DEVICE, REFUSED, Failed
-from . import braking, causes, plausibility, tables, verdict
+from . import _words, braking, causes, plausibility, tables, verdict
 from .reading import Journal, Json
 
 VERSION = 7
@@ -47,9 +47,9 @@ def schema() -> str:
 def fill(connection: sqlite3.Connection) -> None:
     """Fills a new database with its tables and views, and the texts of causes."""
     connection.executescript(schema())
-    insert(connection, "cause_word", ["cause", "says", "ends"], ([name, *texts] for name, texts in causes.CAUSES.items()))
+    insert(connection, "cause_word", ["cause", "says", "ends"], ([name, *texts] for name, texts in _words.CAUSES.items()))
     insert(connection, "trip_word", ["trip_cause", "says", "section"],
-           ([name, *texts] for name, texts in causes.TRIP_CAUSES.items()))
+           ([name, *texts] for name, texts in _words.TRIP_CAUSES.items()))
 
 
 def open_database(path: str | Path, images: Iterable[Path] = ()) -> sqlite3.Connection:

@@ -9,7 +9,7 @@ from dataclasses import dataclass, field
 from pathlib import Path
 
 from ..escaping import shown
-from ..journal import causes
+from ..journal import _words, causes
 from ..journal.groups import links_of, name_of
 from ..journal.reading import Json, Progress, parsed
 from ..program import Run
@@ -178,7 +178,7 @@ def causes_of(life: Life) -> dict[int, str]:
         path = Path(folder) / "scenario.json"
         path.write_text(life.scenario.text(), encoding="utf-8")
         lines: list[Json] = [parsed(one, "run") for one in Run(["run"], path).lines()]
-    return {line["event"]: "; ".join(causes.CAUSES[one][0] for one in causes.held(line)) for line in lines if "event" in line}
+    return {line["event"]: "; ".join(_words.CAUSES[one][0] for one in causes.held(line)) for line in lines if "event" in line}
 
 
 def of_unread(life: Life, events: list[Event], nominal: dict[int, Message]) -> Iterator[Found | None]:

@@ -10,7 +10,7 @@ import re
 from collections.abc import Iterable
 from dataclasses import dataclass
 
-from ..journal.causes import CAUSES
+from ..journal._words import CAUSES
 from ..program import REFUSED, Failed
 from ..units._header import BrakeCause, Cold, Fault, LimitCause, TripCause
 from .mode_table import mode_table, table_rows, tables, transitions

@@ -1,6 +1,7 @@
 pub mod Causes
 pub mod Closing
 pub mod Groups
+pub mod Hearing
 pub mod Laws
 pub mod Places
 pub mod Relation

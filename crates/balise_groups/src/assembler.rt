@@ -5,9 +5,12 @@ ghost use Rattle.balise_groups.specs.Groups.{GroupEntry, Groups, KnownGroups, se
 ghost use Rattle.balise_groups.specs.Groups.GroupEntry.{Read, Went};
 ghost use Rattle.balise_groups.specs.PacketCounts.{most_packets, packets_at, packets_in, packets_of_closed, packets_of_taken};
 
+mod hearing;
+
 use crate::message::Closed;
 use crate::reading::Reading;
 use crate::readings::Readings;
+pub use hearing::Hearing;
 use std::marker::Model;
 use units::Length;
 use vars::GroupIdentity;

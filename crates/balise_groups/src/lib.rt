@@ -9,7 +9,7 @@ mod message;
 mod reading;
 mod readings;
 
-pub use assembler::{Assembler, Seen, Taken};
+pub use assembler::{Assembler, Hearing, Seen, Taken};
 pub use group_packets::{GroupPackets, PacketsInTurn};
 pub use laws::{
     a_group_has_one_name, each_place_counts, groups_close_so, no_group_is_left, the_first_counts,

@@ -1,6 +1,6 @@
 //! At most 8 readings of one group, the first of each place, and what they close to.
 ghost use Rattle.std.specs.Prelude.{◌≡◌, ◌≤◌, List, [], false};
-ghost use Rattle.balise_groups.specs.Closing.{is_whole, close_of};
+ghost use Rattle.balise_groups.specs.Closing.{is_read, is_whole, close_of};
 ghost use Rattle.balise_groups.specs.Groups.{with_reading};
 ghost use Rattle.balise_groups.specs.PacketCounts.{most_packets, packets_in};
 
@@ -55,6 +55,13 @@ impl Readings {
         if !was_read(self.items.as_slice(), place) {
             self.items.push(reading);
         }
+    }
+
+    /// Whether a reading of this place in the group, N_PIG, is among them.
+    pub fn has_place(&self, place: u64) -> bool
+        ensures { result ≡ is_read self.now place }
+    {
+        was_read(self.items.as_slice(), place)
     }
 
     /// Whether each place up to the first reading's N_TOTAL is read.

@@ -1,7 +1,9 @@
 //! The mode, speed and acknowledgements that decide, with the driver's data, which actions are accepted.
 ghost use Rattle.std.specs.Prelude.{◌≡◌};
-ghost use Rattle.driver.specs.Accepting.{stands};
+ghost use Rattle.driver.specs.Accepting.{stands, standing_refusal, override_refusal};
 
+use crate::ActionRefusal;
+use crate::driver::needs;
 use mode_table::Mode;
 use units::Mph;
 
@@ -24,10 +26,30 @@ pub struct ActionSituation {
 }
 
 impl ActionSituation {
-    /// Whether the train is at standstill.
-    pub(crate) fn stands(&self) -> bool
+    // Whether the train is at standstill.
+    fn stands(&self) -> bool
         ensures { result ≡ stands self.now }
     {
         self.speed.get() == 0
+    }
+
+    /// Why an action isn't accepted that is done at standstill, in modes among which this one is or isn't.
+    pub(crate) fn standing_refusal(&self, is_in_mode: bool) -> Option<ActionRefusal>
+        ensures { result ≡ standing_refusal is_in_mode self.now }
+    {
+        let mode = needs(is_in_mode, ActionRefusal::OtherMode);
+        mode.or(needs(self.stands(), ActionRefusal::NotAtStandstill))
+    }
+
+    /// Why an override isn't accepted.
+    pub(crate) fn override_refusal(&self) -> Option<ActionRefusal>
+        ensures { result ≡ override_refusal self.now }
+    {
+        let here = matches!(
+            self.mode,
+            Mode::FullSupervision | Mode::OnSight | Mode::StaffResponsible | Mode::PostTrip
+        );
+        let mode = needs(here, ActionRefusal::OtherMode);
+        mode.or(needs(self.speed <= self.override_allowed, ActionRefusal::TooFast))
     }
 }

@@ -14,6 +14,7 @@ use crate::{
     Acknowledged, Action, Confirmed, Datum, DriverIdentity, Kept, Occasion, OverrideLeft,
     RunningNumber, TrainData,
 };
+pub(crate) use accepting::needs;
 use mode_table::{Fate, Item, Mode, TrainLevel, status_on};
 use std::marker::Model;
 use units::{Length, Ms};

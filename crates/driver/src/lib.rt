@@ -4,6 +4,7 @@
 
 mod action;
 mod action_kind;
+mod action_refusal;
 mod action_situation;
 mod datum;
 mod driver;
@@ -18,6 +19,7 @@ mod train_data;
 
 pub use action::{Acknowledged, Action, Confirmed};
 pub use action_kind::ActionKind;
+pub use action_refusal::ActionRefusal;
 pub use action_situation::ActionSituation;
 pub use datum::Datum;
 pub use driver::Driver;

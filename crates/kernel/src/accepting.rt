@@ -1,6 +1,6 @@
 //! What the driver entered, and which of the driver's actions would be accepted.
 ghost use Rattle.std.specs.Prelude.{◌≡◌, List};
-ghost use Rattle.driver.specs.Accepting.{accepts};
+ghost use Rattle.driver.specs.Accepting.{accepts, refusal};
 ghost use Rattle.events.specs.declared.input.Event.{Event};
 ghost use Rattle.kernel.specs.Lives.{life_of};
 ghost use Rattle.kernel.specs.StandsFor.{StandsFor, StandsForLife};
@@ -8,7 +8,7 @@ ghost use Rattle.mode_control.specs.Life.{Life, driver_of};
 ghost use Rattle.mode_control.specs.Sentences.{situation};
 
 use crate::state::StateOver;
-use driver::{Action, Driver};
+use driver::{Action, ActionRefusal, Driver};
 use track_picture::ProfileStores;
 
 impl<T: ProfileStores> StateOver<T> {
@@ -27,5 +27,14 @@ impl<T: ProfileStores> StateOver<T> {
             → result ≡ accepts (driver_of (life_of events)) (situation (life_of events)) action.now }
     {
         self.supervision.accepts(action)
+    }
+
+    /// Why an action of the driver wouldn't be accepted as the next event: the first of its conditions that fails; None
+    /// exactly where it would. Takes no memory.
+    pub fn refusal(&self, action: &Action) -> Option<ActionRefusal>
+        ensures { (events : List Event) → StandsFor T.stores self.now events
+            → result ≡ refusal (driver_of (life_of events)) (situation (life_of events)) action.now }
+    {
+        self.supervision.refusal(action)
     }
 }

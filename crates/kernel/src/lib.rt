@@ -8,6 +8,7 @@ mod causes;
 mod closings;
 mod commanding;
 mod counts;
+mod hearing;
 mod keeping;
 mod laws;
 mod limiting;

@@ -1,6 +1,6 @@
 //! What the driver does: an action counts where it is accepted in the situation before the event.
 ghost use Rattle.std.specs.Prelude.{◌≡◌, None, Some};
-ghost use Rattle.driver.specs.Accepting.{accepts};
+ghost use Rattle.driver.specs.Accepting.{accepts, refusal};
 ghost use Rattle.track_picture.specs.Entry.{TrackEntry};
 ghost use Rattle.mode_control.specs.Entry.{initial};
 ghost use Rattle.mode_control.specs.Life.{Life, driver_of, grown};
@@ -12,7 +12,7 @@ use crate::calls::Kind;
 use crate::deed::Deed;
 use crate::parts::Parts;
 use crate::state::SupervisionOver;
-use driver::{Action, ActionSituation, Occasion};
+use driver::{Action, ActionRefusal, ActionSituation, Occasion};
 use events::Input;
 use track_picture::ProfileStores;
 
@@ -79,6 +79,14 @@ impl<T: ProfileStores> SupervisionOver<T> {
             → result ≡ accepts (driver_of life) (situation life) action.now }
     {
         self.parts.driver.accepts(action, &self.situation())
+    }
+
+    /// Why an action wouldn't be accepted now, as the next event.
+    pub fn refusal(&self, action: &Action) -> Option<ActionRefusal>
+        ensures { (life : Life) → StandsForLife T.stores self.now life
+            → result ≡ refusal (driver_of life) (situation life) action.now }
+    {
+        self.parts.driver.refusal(action, &self.situation())
     }
 
     // What an action does, if it is accepted. It stands out of line, so that other inputs don't go about a deed.

@@ -1,11 +1,12 @@
 -- In each mode in which the train runs, its data are valid.
 use Rattle.std.proofs.Common.{◌≡◌, Bool, true, false, List, [], ◌∷◌, refl, inl, inr, ◌⊎◌}
-use Rattle.std.specs.Prelude.{Option, Some, None, ◌&&◌}
-use Rattle.std.proofs.lemmas.Bool.{and_parts}
-use Rattle.driver.specs.Accepting.{stands_in, may_leave}
+use Rattle.std.specs.Prelude.{Option, Some, None}
+use Rattle.std.specs.Option.{option_or}
+use Rattle.driver.specs.Accepting.{needs, standing_in, leaving_refusal}
 use Rattle.driver.specs.declared.action.Action.{Action}
 use Rattle.driver.specs.declared.action.Action.TheVariants.{Confirm}
 use Rattle.driver.specs.declared.action.Confirmed.TheVariants as confirm
+use Rattle.driver.specs.declared.action_refusal.ActionRefusal.TheVariants.{TrainDataNotValid}
 use Rattle.driver.specs.declared.datum.Datum.{Datum}
 use Rattle.driver.specs.declared.datum.Datum.TheVariants.{Unknown}
 use Rattle.driver.specs.declared.occasion.Occasion.{Occasion}
@@ -33,7 +34,7 @@ use Rattle.mode_control.specs.Sentences.{situation, deed_of, entry_of}
 use Rattle.kernel.specs.Lives.{life_of}
 use Rattle.safety_laws.specs.Running.{modes_by_data}
 use Rattle.safety_laws.proofs.Events.{past_turn, event_seen, found}
-use Rattle.safety_laws.proofs.Leaving.{started}
+use Rattle.safety_laws.proofs.Leaving.{started, neither, holds}
 
 abbrev runs : Mode → Bool
 runs mode = is_one_of modes_by_data mode
@@ -94,8 +95,10 @@ enters old c h = inl refl
 
 started_with : (life : Life) (input : Input) → is_start (action_of (deed_of life input)) ≡ true → is_valid (driver_of life).train_data ≡ true
 started_with life input h =
-    (and_parts (stands_in (StandBy ∷ PostTrip ∷ []) (situation life) && may_leave (driver_of life)) (is_valid (driver_of life).train_data)
-    (started life input h).is_accepted).1
+    let leaving = leaving_refusal (driver_of life) in
+    let train = needs (is_valid (driver_of life).train_data) TrainDataNotValid in
+    let none = neither (standing_in (StandBy ∷ PostTrip ∷ []) (situation life)) (option_or leaving train) (started life input h).is_accepted in
+    holds (is_valid (driver_of life).train_data) TrainDataNotValid (neither leaving train none.1).1
 
 -- ---- one event, and all
 

@@ -1,17 +1,19 @@
 -- How Trip, System Failure and Stand By are left.
 use Rattle.std.proofs.Common.{◌≡◌, Bool, true, false, ℤ, List, [], ◌∷◌, cond, refl, ap, sym, ◌∙◌, subst, inl, inr, ◌⊎◌, arith}
-use Rattle.std.specs.Prelude.{Option, Some, None, ◌&&◌, ◌||◌, not, ◌<ℤ◌}
-use Rattle.std.specs.Option.{option_map_or}
+use Rattle.std.specs.Prelude.{Option, Some, None, is_none, ◌&&◌, ◌||◌, not, ◌<ℤ◌}
+use Rattle.std.specs.Option.{option_map_or, option_or}
 use Rattle.authority.specs.Authority.{end_of}
 use Rattle.authority.specs.declared.answers.End.{End}
-use Rattle.std.proofs.lemmas.Bool.{and_parts, not-true, both_ways, eqb-true}
+use Rattle.std.proofs.lemmas.Bool.{not-true, both_ways, eqb-true}
 use Rattle.std.proofs.lemmas.Bool.Decides.{nat_tests}
 use Rattle.balise_groups.specs.declared.message.Closed.{Closed}
 use Rattle.balise_groups.specs.declared.message.Closed.TheVariants as closed
-use Rattle.driver.specs.Accepting.{accepts, stands_in, stands, may_leave}
+use Rattle.driver.specs.Accepting.{accepts, needs, standing_in, stands, leaving_refusal}
 use Rattle.driver.specs.declared.action.Action.{Action}
 use Rattle.driver.specs.declared.action.Action.TheVariants.{Start, ChooseShunting, Acknowledge, CloseDesk}
 use Rattle.driver.specs.declared.action.Acknowledged.TheVariants as kind
+use Rattle.driver.specs.declared.action_refusal.ActionRefusal.{ActionRefusal}
+use Rattle.driver.specs.declared.action_refusal.ActionRefusal.TheVariants.{OtherMode, NotAtStandstill, TrainDataNotValid, NoTrip}
 use Rattle.driver.specs.Data.{is_valid}
 use Rattle.events.specs.declared.input.Input.{Input}
 use Rattle.events.specs.declared.input.Input.TheVariants.{Odometer, Driver}
@@ -32,6 +34,16 @@ use Rattle.mode_control.specs.Tripping.{seen_by}
 use Rattle.safety_laws.specs.Intervening.{modes_to_end, seen, HasPassedEnd}
 use Rattle.safety_laws.specs.Modes.{IsOverrun, IsDoneAtStandstill, modes_by_start}
 use Rattle.safety_laws.proofs.Events.{turned, found}
+
+-- ---- no condition of an action fails
+
+pub neither : (one other : Option ActionRefusal) → is_none (option_or one other) ≡ true → (is_none one ≡ true) × (is_none other ≡ true)
+neither None other h = (refl, h)
+neither (Some why) other h = absurd (let no : false ≡ true = h in cc)
+
+pub holds : (condition : Bool) (why : ActionRefusal) → is_none (needs condition why) ≡ true → condition ≡ true
+holds true why h = refl
+holds false why h = absurd (let no : false ≡ true = h in cc)
 
 -- ---- the rows from each of them
 
@@ -101,10 +113,11 @@ module _ (life : Life) where
   abbrev accepted : Action → Bool
   accepted action = accepts (driver_of life) (situation life) action
 
-  done : (action : Action) (modes : List Mode) → accepted action ≡ true → stands_in modes (situation life) ≡ true → IsDoneAtStandstill life (Driver action) action
+  done : (action : Action) (modes : List Mode) → accepted action ≡ true → is_none (standing_in modes (situation life)) ≡ true → IsDoneAtStandstill life (Driver action) action
   done action modes is stood =
-      let still = and_parts (is_one_of modes (mode_of life.entries)) (stands (situation life)) stood in
-      record { is = refl; is_accepted = is; stands = eqb-true (speed_of (tracks life.entries)) 0 still.1 }
+      let none = neither (needs (is_one_of modes (mode_of life.entries)) OtherMode) (needs (stands (situation life)) NotAtStandstill) stood in
+      let still = holds (stands (situation life)) NotAtStandstill none.1 in
+      record { is = refl; is_accepted = is; stands = eqb-true (speed_of (tracks life.entries)) 0 still }
 
   -- what a test finds in an input is an action of the driver that was accepted
   by_deed : (test : Option Action → Bool) (wanted : Action) → test None ≡ false →
@@ -122,7 +135,7 @@ module _ (life : Life) where
   acknowledged_by : (action : Action) → accepted action ≡ true → is_trip_acknowledging (Some action) ≡ true →
       IsDoneAtStandstill life (Driver action) (Acknowledge kind.Trip)
   acknowledged_by (Acknowledge kind.Trip) is h =
-      done (Acknowledge kind.Trip) (Trip ∷ StandBy ∷ []) is (and_parts (stands_in (Trip ∷ StandBy ∷ []) (situation life)) (driver_of life).trip_outstanding is).0
+      done (Acknowledge kind.Trip) (Trip ∷ StandBy ∷ []) is (neither (standing_in (Trip ∷ StandBy ∷ []) (situation life)) (needs (driver_of life).trip_outstanding NoTrip) is).0
   acknowledged_by action is h = absurd (let no : false ≡ true = h in cc)
 
   acknowledged : (input : Input) → is_trip_acknowledging (action_of (deed_of life input)) ≡ true → IsDoneAtStandstill life input (Acknowledge kind.Trip)
@@ -130,9 +143,8 @@ module _ (life : Life) where
 
   started_by : (action : Action) → accepted action ≡ true → is_start (Some action) ≡ true → IsDoneAtStandstill life (Driver action) Start
   started_by Start is h =
-      let stood = stands_in (StandBy ∷ PostTrip ∷ []) (situation life) in
-      let parts = and_parts (stood && may_leave (driver_of life)) (is_valid (driver_of life).train_data) is in
-      done Start (StandBy ∷ PostTrip ∷ []) is (and_parts stood (may_leave (driver_of life)) parts.0).0
+      let leaving = option_or (leaving_refusal (driver_of life)) (needs (is_valid (driver_of life).train_data) TrainDataNotValid) in
+      done Start (StandBy ∷ PostTrip ∷ []) is (neither (standing_in (StandBy ∷ PostTrip ∷ []) (situation life)) leaving is).0
   started_by action is h = absurd (let no : false ≡ true = h in cc)
 
   pub started : (input : Input) → is_start (action_of (deed_of life input)) ≡ true → IsDoneAtStandstill life input Start
@@ -143,7 +155,7 @@ module _ (life : Life) where
 
   chosen_by : (action : Action) → accepted action ≡ true → is_shunting_choice (Some action) ≡ true → IsDoneAtStandstill life (Driver action) ChooseShunting
   chosen_by ChooseShunting is h =
-      done ChooseShunting all_but_trip is (and_parts (stands_in all_but_trip (situation life)) (may_leave (driver_of life)) is).0
+      done ChooseShunting all_but_trip is (neither (standing_in all_but_trip (situation life)) (leaving_refusal (driver_of life)) is).0
   chosen_by action is h = absurd (let no : false ≡ true = h in cc)
 
   chosen : (input : Input) → is_shunting_choice (action_of (deed_of life input)) ≡ true → IsDoneAtStandstill life input ChooseShunting

@@ -7,6 +7,7 @@ pub mod Parts
 pub mod History
 pub mod Sentences
 pub mod Closings
+pub mod Hearing
 pub mod Steps
 pub mod Stores
 pub mod StandsFor

@@ -11,6 +11,7 @@ mod column;
 mod ending;
 mod fixing;
 mod happened;
+mod hearing;
 mod laws;
 mod looking;
 mod parts;
@@ -27,6 +28,7 @@ pub use ending::{
     none_at_power_up, only_latest_counts, place_is_read,
 };
 pub use happened::Happened;
+pub use hearing::TelegramOutcome;
 pub use laws::telegrams_are_carried;
 pub use state::{Trackside, TracksideOver};
 pub use stores::{Facts, ProfileStores, Segments};

@@ -68,6 +68,13 @@ impl AnnouncedLevel {
         self.announced = None;
     }
 
+    /// What is announced; None where no level is.
+    pub fn announced(&self) -> Option<Announcement>
+        ensures { result ≡ self.now }
+    {
+        self.announced
+    }
+
     /// Whether an announcement of level 0 is left.
     pub fn remains(&self) -> bool
         ensures { result ≡ is_level_0_announced self.now }

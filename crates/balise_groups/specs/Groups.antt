@@ -2,7 +2,7 @@
 -- telegram of the group that closed last is ignored, are this project's profile). Paths are centimetres. Lists of
 -- entries and of a group's readings have the newest first; the readings that count stand in the order in which they
 -- came. A reader may take for granted that each telegram was accepted by the decoder.
-use Rattle.std.specs.Prelude.{ℕ, ◌+◌, List, [], ◌∷◌, ◌++◌, Bool, false, ◌&&◌, not, ◌==◌, nat_le, if◌then◌else◌, Option, Some, None}
+use Rattle.std.specs.Prelude.{ℕ, ◌+◌, List, [], ◌∷◌, ◌++◌, Bool, false, ◌&&◌, not, ◌==◌, nat_le, if◌then◌else◌, Option, Some, None, option_map}
 use Rattle.vars.specs.declared.group.GroupIdentity.{GroupIdentity}
 use Rattle.balise_groups.specs.declared.reading.Reading.{Reading}
 use Rattle.balise_groups.specs.declared.message.Closed.{Closed}
@@ -108,6 +108,10 @@ known_of groups =
 
 abbrev pub known : List GroupEntry → KnownGroups
 known entries = known_of (groups_of entries)
+
+-- the group being read, if one is
+abbrev pub being_read : KnownGroups → Option GroupIdentity
+being_read groups = option_map (λ (seen : Seen). seen.group) groups.current
 
 -- ---- what closes
 

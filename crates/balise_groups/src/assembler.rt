@@ -1,7 +1,7 @@
 //! Readings come in one by one, and groups go out as they end (this project's profile).
 ghost use Rattle.std.specs.Prelude.{◌≡◌, ◌+◌, ◌≤◌, ℕ, List, [], ◌∷◌, None, is_none, false};
 ghost use Rattle.balise_groups.specs.Closing.{close_of};
-ghost use Rattle.balise_groups.specs.Groups.{GroupEntry, Groups, KnownGroups, seen_at, is_close, is_passed, goes_on, ended, ended_if_whole, joined_by, close_if_whole, with_reading, known_of, known, taken_by, ended_by};
+ghost use Rattle.balise_groups.specs.Groups.{GroupEntry, Groups, KnownGroups, seen_at, is_close, is_passed, goes_on, ended, ended_if_whole, joined_by, close_if_whole, with_reading, known_of, known, being_read, taken_by, ended_by};
 ghost use Rattle.balise_groups.specs.Groups.GroupEntry.{Read, Went};
 ghost use Rattle.balise_groups.specs.PacketCounts.{most_packets, packets_at, packets_in, packets_of_closed, packets_of_taken};
 
@@ -163,6 +163,16 @@ impl Assembler {
         ensures { result ≡ is_none self.now.current }
     {
         self.current.is_none()
+    }
+
+    /// The group being read; None where none is.
+    pub fn group(&self) -> Option<GroupIdentity>
+        ensures { result ≡ being_read self.now }
+    {
+        match &self.current {
+            None => None,
+            Some(seen) => Some(seen.group),
+        }
     }
 
     /// How many packets the telegrams of the group being read have, at most 264.

@@ -143,6 +143,20 @@ impl Links {
         !self.left.is_empty()
     }
 
+    /// The announcements that are left, in the order of their list.
+    pub fn left(&self) -> &[Announcement]
+        ensures { result.now ≡ self.now.left }
+    {
+        self.left.as_slice()
+    }
+
+    /// Whether a group was missed since the last that was accepted as announced, or else since the life began.
+    pub fn has_missed(&self) -> bool
+        ensures { result ≡ self.now.has_missed }
+    {
+        self.has_missed
+    }
+
     /// An equal value.
     pub fn copy(&self) -> Self
         ensures { result ≡ self.now }

@@ -106,6 +106,14 @@ pub record KnownValues : Type 0 where
   pub in_force : ValuesFor
   pub announced : Option Announcement
 
+-- where what is announced comes into force; None where nothing is, or it does wherever the train is
+abbrev pub start_or_none : Option Announcement → Option ℤ
+start_or_none None = None
+start_or_none (Some a) = a.start
+
+abbrev pub announced_start : KnownValues → Option ℤ
+announced_start values = start_or_none values.announced
+
 abbrev pub known : ValuesFor → List NationalEntry → KnownValues
 known kept entries =
     record { in_force = in_force kept entries; announced = option_map announcement_of (waiting entries) }

@@ -1,7 +1,7 @@
 //! Which national values are in force, as packets announce them and groups of other countries are met.
 ghost use Rattle.std.specs.Prelude.{◌≡◌, ◌≤◌, false, List, [], ◌∷◌, length, IfSome};
 ghost use Rattle.national.specs.Values.{ValuesFor, is_any, is_foreign};
-ghost use Rattle.national.specs.InForce.{NationalEntry, fact_of, is_reached, known, in_force, nothing_kept, has_come};
+ghost use Rattle.national.specs.InForce.{NationalEntry, fact_of, is_reached, known, announced_start, in_force, nothing_kept, has_come};
 ghost use Rattle.national.specs.InForce.NationalEntry.{Announced, Entered, Reached};
 
 use crate::announcement::Announcement;
@@ -113,6 +113,17 @@ impl National {
             → is_any result.now ≡ has_come entries }
     {
         self.in_force.countries()
+    }
+
+    /// Where the announced values come into force, in centimetres; None where none are announced, or they do wherever
+    /// the train is.
+    pub fn announced_start(&self) -> Option<Cm>
+        ensures { result ≡ announced_start self.now }
+    {
+        match &self.announced {
+            None => None,
+            Some(announced) => announced.start,
+        }
     }
 
     /// An equal value.

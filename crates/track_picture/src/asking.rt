@@ -1,11 +1,13 @@
 //! What is known, part by part.
 ghost use Rattle.std.specs.Prelude.{◌≡◌};
+ghost use Rattle.balise_groups.specs.Groups.{being_read};
 
 use crate::happened::Happened;
 use crate::state::TracksideOver;
 use crate::stores::ProfileStores;
 use areas::{AnnouncedLevel, Areas};
 use authority::Authority;
+use linking::Links;
 use national::National;
 use odometry::Place;
 use track_store::Restrictions;
@@ -39,6 +41,20 @@ impl<T: ProfileStores> TracksideOver<T> {
         ensures { result ≡ self.now.parts.moment }
     {
         self.parts.moment
+    }
+
+    /// The group that is being read; None where none is.
+    pub fn group_being_read(&self) -> Option<GroupIdentity>
+        ensures { result ≡ being_read self.now.parts.groups }
+    {
+        self.parts.groups.group()
+    }
+
+    /// The announced groups that are left.
+    pub fn links(&self) -> &Links
+        ensures { result.now ≡ self.now.parts.links }
+    {
+        &self.parts.links
     }
 
     /// The national values.

@@ -65,7 +65,7 @@ impl Parts {
 
 impl<T: ProfileStores> TracksideOver<T> {
     /// Whether a group that wasn't announced makes a fix: nothing is known that lies at places of its own.
-    pub(crate) fn is_free(&self) -> bool
+    pub fn is_free(&self) -> bool
         ensures { (life : Life) → StandsForLife T.stores self.now life → result ≡ is_free life.entries }
     {
         let announced = self.parts.links.is_in_use();

@@ -20,6 +20,7 @@ mod showing;
 mod sight;
 mod state;
 mod steps;
+mod track;
 mod tripping;
 mod window;
 

@@ -1,3 +1,4 @@
 pub mod Arguments
 pub mod EtcsArguments
 pub mod LabArguments
+pub mod Statuses

@@ -1,4 +1,7 @@
 //! How `etcs_lab` ends, and what it says on standard error.
+ghost use Rattle.std.specs.Prelude.{◌≡◌, IfErr, IfOk, is_err};
+ghost use Rattle.std.specs.IoError.{error_kind};
+ghost use Rattle.command_line.specs.Statuses.{code_of, unread_status};
 
 use std::io;
 use std::io::{ErrorKind, Write};
@@ -22,7 +25,9 @@ pub enum Status {
 
 impl Status {
     /// The exit status of the process.
-    pub fn code(self) -> u8 {
+    pub fn code(self) -> u8
+        ensures { result ≡ code_of self }
+    {
         match self {
             Status::Unwritten => Status::Refused as u8,
             _ => self as u8,
@@ -31,39 +36,54 @@ impl Status {
 }
 
 /// Says on standard error what failed. Signs of a name that can't be seen are escaped.
-pub fn fail<R: Eprint>(rt: &R, what: &str, path: &str, status: Status) -> Status {
+pub fn fail<R: Eprint>(rt: &R, what: &str, path: &str, status: Status) -> Status
+    ensures { result ≡ status }
+{
     let name = path.escape_debug();
     let _ = eprintln!(rt; "etcs_lab: {name}: {what}");
     status
 }
 
 /// Says that nothing can be written.
-pub fn unwritten<R: Eprint>(rt: &R, path: &str) -> Status {
+pub fn unwritten<R: Eprint>(rt: &R, path: &str) -> Status
+    ensures { result ≡ Status.Unwritten }
+{
     fail(rt, "the output can't be written", path, Status::Unwritten)
 }
 
 /// Whether a text was written; else says that nothing can be.
-pub fn reported<R: Eprint>(rt: &R, path: &str, written: io::Result<()>) -> Result<(), Status> {
+pub fn reported<R: Eprint>(rt: &R, path: &str, written: io::Result<()>) -> Result<(), Status>
+    ensures same { is_err result ≡ is_err written }
+    ensures status { IfErr result (λ status. status ≡ Status.Unwritten) }
+{
     written.map_err(|_| unwritten(rt, path))
 }
 
 /// Says that a file or an image can't be read.
-pub fn unread<R: Eprint>(rt: &R, path: &str) -> Status {
+pub fn unread<R: Eprint>(rt: &R, path: &str) -> Status
+    ensures { result ≡ Status.Device }
+{
     fail(rt, "can't be read", path, Status::Device)
 }
 
 /// Says that an image isn't formatted.
-pub fn unformatted<R: Eprint>(rt: &R, path: &str) -> Status {
+pub fn unformatted<R: Eprint>(rt: &R, path: &str) -> Status
+    ensures { result ≡ Status.Refused }
+{
     fail(rt, "is not a formatted image", path, Status::Refused)
 }
 
 /// Says that memory is refused.
-pub fn no_memory<R: Eprint>(rt: &R, path: &str) -> Status {
+pub fn no_memory<R: Eprint>(rt: &R, path: &str) -> Status
+    ensures { result ≡ Status.Refused }
+{
     fail(rt, "out of memory", path, Status::Refused)
 }
 
 /// Says that a file can't be read, or that memory for it is refused.
-pub fn unread_for<R: Eprint>(rt: &R, path: &str, error: &io::Error) -> Status {
+pub fn unread_for<R: Eprint>(rt: &R, path: &str, error: &io::Error) -> Status
+    ensures { result ≡ unread_status (error_kind error.now) }
+{
     match error.kind() {
         ErrorKind::OutOfMemory => no_memory(rt, path),
         _ => unread(rt, path),
@@ -76,13 +96,18 @@ pub fn text_reported<R: Eprint, W: Write>(
     text: &str,
     command: &str,
     out: &mut W,
-) -> Result<Status, Status> {
+) -> Result<Status, Status>
+    ensures ok { IfOk result (λ status. status ≡ Status.Whole) }
+    ensures err { IfErr result (λ status. status ≡ Status.Unwritten) }
+{
     reported(rt, command, out.write_all(text.as_bytes()))?;
     Ok(Status::Whole)
 }
 
 /// Prints on standard error what is wrong with the arguments.
-pub fn refused_args<R: Eprint>(rt: &R, text: &str) -> Status {
+pub fn refused_args<R: Eprint>(rt: &R, text: &str) -> Status
+    ensures { result ≡ Status.Usage }
+{
     let _ = eprint!(rt; "{text}");
     Status::Usage
 }

@@ -45,3 +45,19 @@ pub(crate) fn whole(text: &str) -> Option<i64>
         not_negative(&Numeral::scan(bytes))
     }
 }
+
+/// Whether the text is 1 to 19 digits, as most numbers are: a whole number of 64 bits.
+pub(crate) fn is_short(text: &str) -> bool
+    ensures { IsTrue result → is_some (number_of text.now) ≡ true }
+{
+    let bytes = text.as_bytes();
+    if bytes.is_empty() || bytes.len() > 19 {
+        return false;
+    }
+    for byte in bytes {
+        if !byte.is_ascii_digit() {
+            return false;
+        }
+    }
+    true
+}

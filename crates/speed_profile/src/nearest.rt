@@ -34,9 +34,22 @@ pub fn lower_by_all<'a, S: Profile<CategorySpeeds>, G: Profile<Permille>>(
     ensures { approach.new ≡ lowered_by (G.value approach.old.gradient) (speeds.old.targets ++ others.old.targets) approach.old }
 {
     lower_by_piece(approach, speeds);
-    approach.look_for_stop();
+    look_for_stop(approach, speeds, others);
     lower_by_others(approach, speeds, others);
     lower_by_speeds(approach, speeds);
+}
+
+// Looks where the train comes to a stop, where there may be more to brake for than a mode area and a last target.
+fn look_for_stop<'a, S: Profile<CategorySpeeds>, G: Profile<Permille>>(
+    approach: &mut Approach<'a, G>,
+    speeds: &SpeedTargets<'a, S>,
+    others: &OtherTargets<'a>,
+)
+    ensures { approach.new ≡ approach.old }
+{
+    if speeds.start().is_some() || others.has_restrictions() {
+        approach.look_for_stop();
+    }
 }
 
 // Lowers the speed for all others, and for the static speeds before them.

@@ -55,6 +55,11 @@ impl<'a> OtherTargets<'a> {
         }
     }
 
+    /// Whether a restriction wasn't looked at yet.
+    pub fn has_restrictions(&self) -> bool {
+        !self.restricted.is_empty()
+    }
+
     /// Leaves out the restrictions that come next, up to one that a train isn't known to fit.
     pub fn skip_fitting<G: Profile<Permille>>(&mut self, approach: &Approach<'_, G>)
         ensures { AskTheSameOf (G.value approach.now.gradient) approach.now self.old.targets self.new.targets }

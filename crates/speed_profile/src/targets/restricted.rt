@@ -41,6 +41,11 @@ impl<'a> RestrictionTargets<'a> {
         }
     }
 
+    /// Whether each was looked at.
+    pub fn is_empty(&self) -> bool {
+        self.left.is_empty()
+    }
+
     /// Leaves out those that come next, up to one that a train isn't known to fit.
     pub fn skip_fitting<G: Profile<Permille>>(&mut self, approach: &Approach<'_, G>)
         ensures { AskTheSameOf (G.value approach.now.gradient) approach.now self.old.targets self.new.targets }

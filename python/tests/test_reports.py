@@ -1,6 +1,7 @@
 """Reports, charts, the database, parts of a journal, and texts."""
 import csv
 import io
+import json
 import re
 import sqlite3
 import unittest
@@ -9,9 +10,10 @@ from pathlib import Path
 import pandas as pd
 
 import gaknifur.journal.tables as tables
-from gaknifur.journal import charts, database, follow, report, summary, verdict, wording
+from gaknifur.journal import braking, charts, database, follow, report, summary, verdict, wording
 from gaknifur.journal._words import CAUSES
 from gaknifur.journal.extent import Extent, bound
+from gaknifur.journal.part import Part
 from gaknifur.journal.reading import Journal, Json
 from gaknifur.program import Failed
 
@@ -301,6 +303,45 @@ class Parts(unittest.TestCase):
         table = tables.frame(journal(*RUN))
         self.assertEqual(list(Extent(bound("1"), bound("3m")).take(table)["event"]), [1, 2, 3])
         self.assertEqual(len(Extent(life=2).take(table)), 0)
+
+    def test_what_is_read_before_a_part_does_not_grow(self) -> None:
+        for count in (10, 10_000):
+            still = [record(n, time_ms=100 * n) for n in range(2, count)]
+            lines = [listed(one) for one in (record(0, "powerup"), reading(1, 20_000), *still, reading(count, 10_000), record(count + 1))]
+            part = Part(count, count)
+            found = [line for one in lines for line in part.take(one)]
+            self.assertEqual([json.loads(one)["event"] for one in found], [1, 2, count - 1, count], "the reading, the next moment, and the last record")
+            self.assertEqual((part.led, part.is_over), (3, True))
+
+    def test_a_part_has_what_all_has(self) -> None:
+        moments = [record(n, time_ms=100 * (n // 2), mode="FS" if n < 70 else "SR", brake="service" if n > 80 else "none") for n in range(2, 90)]
+        all_ = [record(0, "powerup"), reading(1, 20_000), *moments, reading(90, 15_000, time_ms=5_000, brake="service"), record(91, time_ms=5_100)]
+        for one in all_[1:70]:  # (a change of the limit's cause at each event, which a part has to know from before)
+            one["limit_m_per_h"] = 40_000 + one["event"]
+        for first in (2, 3, 50, 89, 90):
+            whole, part = journal(*all_), journal(*taken(all_, first))
+            part.lead = len(part.records) - len(all_) + first
+            for both in (whole, part):
+                both.replay = [{"replay": "agrees", "life": 1, "first_event": 0, "last_event": 91}, {"end": "nothing_differs"}]
+            whole.why = [line(0, "none"), line(40, "none", too_fast=40), line(60, "none"), line(81, "service", must_stand=81)]
+            part.why = [[one for one in whole.why if one["event"] < first][-1], *(one for one in whole.why if one["event"] >= first)]
+            wanted, found = (tables.csv_text(table[table["event"] >= first].drop(columns="stretch")) for table in map(tables.frame, (whole, part)))
+            self.assertEqual(found, wanted, f"from event {first}")
+            self.assertLessEqual(part.lead, 3)
+            rows, brakes = ([row for row in braking.rows(one.records, None, one.lead) if row["first_event"] >= first] for one in (part, whole))
+            self.assertEqual(rows, brakes, f"from event {first}")
+
+
+def listed(one: Json) -> str:
+    """A record as `etcs_lab events` prints it: these members come first."""
+    first = {"block": 0, "byte": 0, "event": 0, "life": 0, "kind": ""}
+    return json.dumps(first | one, separators=(",", ":"))
+
+
+def taken(records: list[Json], first: int) -> list[Json]:
+    """What is read of records for a part from an event on."""
+    part = Part(first, None)
+    return [json.loads(line) for one in records for line in part.take(listed(one))]
 
 
 class Databases(InFolder):

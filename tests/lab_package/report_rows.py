@@ -28,7 +28,7 @@ from images import blocks, slots_of  # noqa: E402
 from table_rows import page_faults, page_of  # noqa: E402
 
 LONG, MOST_SECONDS, MOST_BYTES, MOST_VIEW_SECONDS = 100_000, 90, 3_000_000, 3  # (a report takes 15 s on an idle machine, 43 on a busy one)
-RECORDS = 8
+RECORDS, MOST_TIMES = 8, 12
 EXAMPLES = {"full_supervision": 2, "linking_fault": 2, "on_sight": 2, "power_cut": 4, "staff_responsible": 1, "trip": 2}
 """Examples, and charts on their pages at the least."""
 
@@ -201,16 +201,40 @@ def extents(count, lives):
         yield from (Extent(life=life), Extent(event(ends[2]), event(ends[-2]), life))
 
 
-def commands(records, train, table):
+def commands(records, train, table, lead=0):
     """The brake commands that begin in a part and end there, with all that is measured."""
     events = set(table["event"])
-    return [row for row in braking.rows(records, train) if row["first_event"] in events and row["last_event"] + 1 in events]
+    return [row for row in braking.rows(records, train, lead) if row["first_event"] in events and row["last_event"] + 1 in events]
+
+
+def standing(rows, name, moments):
+    """A life of moments of the clock; one of few has movement in its middle."""
+    driver = [{"driver": one} for one in ([1, "IC 704"], [4, 1], [3, 20_000, 160_000, 70, 0, 15], [6])]
+    clock = [{"clock": 125 * (number + 1)} for number in range(moments)]
+    middle = [{"drive": [1_000, 46_000]}, {"drive": [100, 0]}] if moments < 1_000 else []
+    steps = [*clock[:moments // 3], *driver, *clock[moments // 3:moments // 2], *middle, *clock[moments // 2:]]
+    (rows.room / "steps.json").write_text(json.dumps({"groups": [], "steps": steps}))
+    rows.run("format", name, len(steps) // RECORDS + 64)
+    rows.run("run", "steps.json", name)
+
+
+def long_stand(rows):
+    """What a report of a part takes doesn't grow as the square of the records before it, of which none is a reading."""
+    took = {}
+    for moments in (LONG // 10, LONG):
+        standing(rows, "stand", moments)
+        begun = processor_seconds()
+        rows.page("stand", "--from", str(moments - 1_000), "--to", str(moments - 1), charts=1, said=None)
+        took[moments] = processor_seconds() - begun
+    rows.same(f"a report of a part of {LONG} moments takes less than {MOST_TIMES} times as long as one of a tenth", took[LONG] < MOST_TIMES * took[LONG // 10], True)
+    print(f"lab: a report of a part of {LONG // 10} and of {LONG} moments took {took[LONG // 10]:.1f} and {took[LONG]:.1f} s of processor time")
 
 
 def parts(rows):
     """A part is read without the rest, and has the same values as in a table of all; an image that isn't whole is read whole."""
     count = 0
-    for name in ("power_cut", "trip", "braked"):
+    standing(rows, "still", 250)
+    for name in ("power_cut", "trip", "braked", "still"):
         whole = reading.read(name, replay=True, why=True, strays=True)
         table = tables.frame(whole)
         for extent in extents(len(table), sorted(set(table["life"]))):
@@ -219,9 +243,9 @@ def parts(rows):
             found = extent.take(tables.frame(journal))
             same = [tables.csv_text(one.drop(columns="stretch")) for one in (found, wanted)]
             rows.same(f"{name}, {extent.text()}: the table of a part", same[0], same[1])
-            rows.same(f"{name}, {extent.text()}: brake commands", commands(journal.records, journal.train, found), commands(whole.records, None, wanted))
+            rows.same(f"{name}, {extent.text()}: brake commands", commands(journal.records, journal.train, found, journal.lead), commands(whole.records, None, wanted))
             lead = len(journal.records) - len(found)
-            rows.same(f"{name}, {extent.text()}: no more is read than since the last reading", len(wanted) == 0 or (journal.is_part and lead <= 8), True)
+            rows.same(f"{name}, {extent.text()}: at most three records before it are read", len(wanted) == 0 or (journal.is_part and lead == journal.lead <= 3), True)
             count += journal.is_part
     rows.same("parts that are read without the rest", count > 35, True)
     rows.page("trip", "--life", "1", "--to", "9", charts=1, text=["Only this part was read", "life 1, events 0 to 9; at its end"])
@@ -262,6 +286,7 @@ def main(words):
         damaged(rows)
         braked(rows)
         parts(rows)
+        long_stand(rows)
         long(rows)
     print(f"lab: {rows.count} comparisons of ./lab, {rows.differ} differ")
     return 1 if rows.differ else 0

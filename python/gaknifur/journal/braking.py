@@ -73,15 +73,15 @@ def reading(record: Json) -> Reading:
 # ---- commands
 
 class Stretch:
-    """Gives the records of a stretch the same number."""
+    """Gives the records of a stretch the same number. After each of the first `lead` records, events are left out."""
 
-    def __init__(self) -> None:
-        self.number, self.last = 0, (0, 0)
+    def __init__(self, lead: int) -> None:
+        self.number, self.last, self.lead = 0, (0, 0), lead
 
     def __call__(self, record: Json) -> int:
         life, event = self.last
-        self.number += (record["life"], record["event"]) != (life, event + 1)
-        self.last = record["life"], record["event"]
+        self.number += life != record["life"] or (self.lead < 0 and event + 1 != record["event"])
+        self.last, self.lead = (record["life"], record["event"]), self.lead - 1
         return self.number
 
 
@@ -90,9 +90,9 @@ def entered(record: Json, train: Json | None) -> Json | None:
     return record if record.get("action") == "enter_train_data" and record["mode"] == "SB" else train
 
 
-def stretches(records: Iterable[Json], train: Json | None) -> Iterator[tuple[list[int], list[Command]]]:
-    """The moments and the commands of each stretch; `train`: the train data before."""
-    for _, group in groupby((one for one in records if one.get("source", "journal") == "journal"), Stretch()):
+def stretches(records: Iterable[Json], train: Json | None, lead: int) -> Iterator[tuple[list[int], list[Command]]]:
+    """The moments and the commands of each stretch; `train`: the train data before; `lead`: the number of records before a part."""
+    for _, group in groupby((one for one in records if one.get("source", "journal") == "journal"), Stretch(lead)):
         moments, found, now, last, mode = set[int](), list[Command](), None, None, None
         for one in group:
             moments.add(one["time_ms"])
@@ -127,16 +127,16 @@ class Measured:
 
     def __post_init__(self) -> None:
         one = self.command
-        self.first = 0 if one.before else 1
-        speeds = [reading.speed for reading in one.readings]
-        self.last = self.first + len(speeds) - 1
-        self.greatest = self.first + max((at for at, speed in enumerate(speeds) if speed == max(speeds)), default=0)
+        self.first, self.readings = 0 if one.before else 1, one.readings
+        most = max((reading.speed for reading in self.readings), default=0)
+        self.last = self.first + len(self.readings) - 1
+        self.greatest = self.first + max((at for at, reading in enumerate(self.readings) if reading.speed == most), default=0)
         self.ways = [0, *accumulate(abs(reading.movement_cm) for reading in one.after)]
         self.unsure_cm = self.ways[1] if one.after and one.kind != "odometer" else 0
 
     def reading(self, at: int) -> Reading:
         """A reading by its number."""
-        return self.command.readings[at - self.first]
+        return self.readings[at - self.first]
 
     def end(self, moment: int) -> int | None:
         """The next moment; None if there is none."""
@@ -162,7 +162,7 @@ class Measured:
 
     def answer(self) -> str:
         """What the readings say."""
-        some = self.command.readings
+        some = self.readings
         if some and not any(one.speed for one in some):
             return "standing"
         if len(some) < 2:
@@ -256,14 +256,14 @@ def row(one: Measured) -> Json:
     return found | promises(found, command.train)
 
 
-def measures(records: Iterable[Json], train: Json | None = None) -> Iterator[Measured]:
-    """The measures of each brake command; `train`: the record of the train data before."""
-    return (Measured(command, moments) for moments, found in stretches(records, train) for command in found)
+def measures(records: Iterable[Json], train: Json | None = None, lead: int = 0) -> Iterator[Measured]:
+    """The measures of each brake command; `train`: the record of the train data before; `lead`: the number of records before a part."""
+    return (Measured(command, moments) for moments, found in stretches(records, train, lead) for command in found)
 
 
-def rows(records: Iterable[Json], train: Json | None = None) -> Iterator[Json]:
-    """A row for each brake command; `train` as in `measures`."""
-    return map(row, measures(records, train))
+def rows(records: Iterable[Json], train: Json | None = None, lead: int = 0) -> Iterator[Json]:
+    """A row for each brake command, as in `measures`."""
+    return map(row, measures(records, train, lead))
 
 
 # ---- output

@@ -6,6 +6,7 @@ its life, so the causes of a line hold up to the next one. They are those of the
 replay agrees with the journal; elsewhere the causes aren't known, and the reason is given.
 """
 import bisect
+import itertools
 from collections.abc import Iterable, Iterator
 from dataclasses import dataclass
 
@@ -109,19 +110,21 @@ def of_line(line: Json | None) -> Known:
 
 
 def line_before(journal: Journal, reasons: Reasons) -> Json | None:
-    """The line of `etcs_lab why` before the first record, which holds there; None if it is of another life."""
-    if not journal.why or not journal.records:
+    """The line of `etcs_lab why` before the first record, or before a part, which holds there; None if it is of another life."""
+    if not journal.why or len(journal.records) <= journal.lead:
         return None
-    line, first = journal.why[0], journal.records[0]["event"]
+    line, first = journal.why[0], journal.records[journal.lead]["event"]
     return line if line["event"] < first and reasons.is_one_run(line["event"], first) else None
 
 
 def known(journal: Journal, records: Iterable[Row]) -> Iterator[Known]:
-    """What is known about each record. Those from one line of `etcs_lab why` to the next have the same causes, limit and trip."""
-    lines, reasons = {line["event"]: line for line in journal.why}, Reasons(journal)
+    """What is known about each record; nothing about those before a part. Those from one line of `etcs_lab why` to the next have the same
+    causes, limit and trip."""
+    lines, reasons, left = {line["event"]: line for line in journal.why}, Reasons(journal), iter(records)
+    yield from (Known(None) for _ in itertools.islice(left, journal.lead))
     before = line_before(journal, reasons)
     same = of_line(before)
-    for event, kind, brake, source in records:
+    for event, kind, brake, source in left:
         reason = OTHER_BLOCK if (source or "journal") != "journal" else reasons.of(event)
         line = lines.get(event) if reason is None else None
         if line and line["brake"] != brake:

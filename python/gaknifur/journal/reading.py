@@ -123,6 +123,8 @@ class Journal:
     is_part: bool = False
     """Whether only the records of a part were read, with those that its beginning needs (module `part`). The examination and the replay are of
     the whole image."""
+    lead: int = 0
+    """The number of records before a part. Between these, records may be left out; so they are of one life without a gap to the part."""
     train: Json | None = None
     """The record of the train data that were entered before a part."""
 
@@ -309,7 +311,7 @@ def read_events(journal: Journal, other_blocks: bool, strays: bool, progress: Pr
     run = objects(listing(other_blocks, strays), journal.path, step, part)
     if part:
         journal.train = parsed(part.train, "events") if part.train else None
-        journal.is_part = True
+        journal.is_part, journal.lead = True, part.led or 0
     if part and part.is_over:
         return
     if run.status == REFUSED and not journal.records:
@@ -328,7 +330,7 @@ def read_why(journal: Journal, progress: Progress) -> None:
         if "event" in line:
             journal.why.append(line)
 
-    changes = Changes(journal.records[0]["event"], journal.records[-1]["event"]) if journal.is_part else None
+    changes = Changes(journal.records[journal.lead]["event"], journal.records[-1]["event"]) if journal.is_part else None
     run = objects(["why", "--json"], journal.path, step, changes)
     if changes and changes.is_over:
         return
@@ -352,7 +354,7 @@ def read(path: str | Path, other_blocks: bool = False, replay: bool = False, why
     if part and journal.is_whole:
         read_events(journal, False, False, progress, part)
     if not journal.records:
-        journal.is_part = False
+        journal.is_part, journal.lead = False, 0
         read_events(journal, other_blocks, strays, progress)
     journal.replay = replayed if journal.refusal is None else []
     if why and journal.refusal is None:

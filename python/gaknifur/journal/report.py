@@ -230,7 +230,7 @@ def pictures_of(table: pd.DataFrame, drawn: list[Life], chosen: pd.DataFrame, ro
 def braking_of(journal: Journal, table: pd.DataFrame) -> Json:
     """Whether the train braked after each command that begins in a part of a journal, with charts."""
     events = set(table["event"])
-    measured = [one for one in braking.measures(journal.records, journal.train) if one.command.first_event in events]
+    measured = [one for one in braking.measures(journal.records, journal.train, journal.lead) if one.command.first_event in events]
     rows = [braking.row(one) for one in measured]
     drawn = braking_charts.chosen(rows)
     return {"rows": [row for row in rows if braking_charts.is_seen(row)][:MOST_LISTED], "all": len(rows),

@@ -62,14 +62,16 @@ def numbers(values: Sequence[int | None], kind: Any = np.int64) -> Any:
     return pd.arrays.IntegerArray(known, np.array([value is None for value in values], bool))
 
 
-def stretches(event: Sequence[int], life: Sequence[int], source: Sequence[str | None]) -> Any:
+def stretches(event: Sequence[int], life: Sequence[int], source: Sequence[str | None], lead: int = 0) -> Any:
     """The number of each record's stretch, from 0 on. A stretch ends before a record of another life or source, or one that
-    isn't the next event."""
+    isn't the next event. Between the first `lead` records and the next one, events are left out."""
     events, lives = np.asarray(event, np.int64), np.asarray(life, np.int64)
     sources = np.asarray(source, object)
     if not len(events):
         return np.zeros(0, np.int64)
-    breaks = (np.diff(events) != 1) | (np.diff(lives) != 0) | (sources[1:] != sources[:-1])
+    breaks = np.diff(events) != 1
+    breaks[:lead] = False
+    breaks |= (np.diff(lives) != 0) | (sources[1:] != sources[:-1])
     return np.concatenate([[0], np.cumsum(breaks)])
 
 
@@ -193,7 +195,7 @@ ORDER = ("block", "event", "life", "stretch", "kind", "time_ms", "mode", "level"
 def frame(journal: Journal) -> pd.DataFrame:
     """One row for each record, in the order of `etcs_lab events`."""
     found = all_columns(journal.records)
-    found["stretch"] = stretches(found["event"], found["life"], found["source"])
+    found["stretch"] = stretches(found["event"], found["life"], found["source"], journal.lead)
     found["limit_kmh"] = found["limit_m_per_h"].astype("Float64") / 1000
     found["speed_m_per_h"] = held_speed(found["kind"], found["reading_m_per_h"], found["stretch"])
     found["speed_kmh"] = found["speed_m_per_h"].astype("Float64") / 1000

@@ -1,5 +1,6 @@
 """A browser with the page open, and calls of the page, for the tests and the pictures of the page."""
 import base64
+import contextlib
 import os
 import time
 from pathlib import Path
@@ -8,16 +9,17 @@ from typing import Any, Self
 SECONDS = 30
 
 
-def processor_s(above: int) -> float:
-    """The seconds that the processes below a process have run for on any processor."""
-    found = 0.0
+def threads_s(above: int) -> dict[str, float]:
+    """The seconds that each thread of the processes below a process has run for, by its number."""
+    found: dict[str, float] = {}
     for task in Path(f"/proc/{above}/task").glob("*/children"):
         for child in task.read_text(encoding="ascii").split():
-            try:
-                fields = Path(f"/proc/{child}/stat").read_text(encoding="ascii").rpartition(")")[2].split()
-                found += sum(map(int, fields[11:13])) / os.sysconf("SC_CLK_TCK") + processor_s(int(child))
-            except FileNotFoundError:  # (it has ended)
-                pass
+            for stat in Path(f"/proc/{child}/task").glob("*/stat"):
+                with contextlib.suppress(FileNotFoundError, ProcessLookupError):  # (it has ended)
+                    fields = stat.read_text(encoding="utf-8", errors="replace").rpartition(")")[2].split()
+                    found[stat.parent.name] = sum(map(int, fields[11:13])) / os.sysconf("SC_CLK_TCK")
+            with contextlib.suppress(FileNotFoundError, ProcessLookupError):
+                found |= threads_s(int(child))
     return found
 
 

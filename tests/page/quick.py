@@ -1,12 +1,15 @@
 """How long an image takes to be shown, and that the page stays usable meanwhile. A busy machine makes single runs slow, so the best of several counts."""
 import base64
+import contextlib
 import json
 import os
 import time
+from collections.abc import Iterator
 from pathlib import Path
 from typing import Any
 
-from browsing import Browser, processor_s
+from browsing import Browser, threads_s
+from chromium import Chromium
 from desks import TELEGRAMS, etcs
 from gaknifur.evidence import times
 
@@ -15,7 +18,14 @@ OPENS_S, PAUSE_MS, FRAME_MS = 3.0, 250, 50  # (a busy machine takes 12 ms for a 
 MOST_EVENTS, MOST_RUNS = 100_000, 3
 MARKS, MARKS_S = 100_000, 20
 SEEN_EVENTS, MOST_SEEN, FRAMES, TRIES = 30_000, 1_000_000, 45, 5
-PICTURE_S, FRAME_S, SLOWER = 2.0, 0.034, 3  # (on an idle machine, 30 frames a second; one that is busy may take three times as long)
+PICTURE_S, FRAME_S, GIVE_UP_S = 2.0, 1 / 30, 60
+WINDOWS = ("moment", 1), ("moment", 0.1), ("place", 1), ("place", 0.001)
+USUAL = {(1, "moment", 1): 0.66, (1, "moment", 0.1): 0.6, (1, "place", 1): 0.7, (1, "place", 0.001): 0.33,
+         (2, "moment", 1): 0.88, (2, "moment", 0.1): 0.9, (2, "place", 1): 0.87, (2, "place", 0.001): 0.36}
+"""What a frame of each window takes of all threads, in standard pictures (bench/NOTES.md), by the number of images."""
+MOST, STANDARD_S = 1.25, 0.0155
+"""How many times as much as usual a frame may take (about half of it is the browser's own, which any frame takes); and what the standard picture takes of
+the busiest thread of the machine where this was measured."""
 START: list[Any] = [{"driver": [1, "IC 704"]}, {"driver": [4, 1]}, {"driver": [3, 20000, 160000, 70, 0, 15]}, {"telegram": TELEGRAMS[0]}, {"driver": [6]}]
 WATCH = """
 const { ask } = window.gaknifur;
@@ -149,82 +159,152 @@ document.getElementById('viewer-chart').getBoundingClientRect();
 return performance.now() - begun;
 """
 FRAME = """
-const [frames, kind, part] = arguments, { viewer } = window.gaknifur.ask, took = [];
-const chart = document.getElementById('viewer-chart'), axis = document.getElementById('viewer-axis');
+const [frames, kind, part, seconds, done] = arguments, { viewer } = window.gaknifur.ask, chart = document.getElementById('viewer-chart'), axis = document.getElementById('viewer-axis');
 axis.value = kind;
 axis.dispatchEvent(new Event('change'));
 chart.scrollIntoView();
 viewer.zoom(part);
-for (let n = 0; n < frames; n++) {
-    const begun = performance.now();
-    n % 3 ? viewer.pan(n % 2 ? 0.05 : -0.04) : viewer.zoom(n % 2 ? 0.8 : 1.1);
-    viewer.drawNow();
-    chart.getBoundingClientRect();
-    took.push(performance.now() - begun);
-}
-return [took.sort((one, other) => one - other), Math.max(...[...chart.querySelectorAll('path')].map(one => one.getAttribute('d').length))];
+const box = chart.getBoundingClientRect(), took = [], y = box.top + 90, late = setTimeout(() => done([n, [], 0]), 1000 * seconds);
+let x = box.left + box.width / 2, last = 0, n = 0;
+const point = type => chart.dispatchEvent(new PointerEvent(type, { pointerId: 1, clientX: x, clientY: y, bubbles: true }));
+const next = now => {
+    if (n) took.push(now - last);
+    last = now;
+    if (n++ === frames) {
+        point('pointercancel');
+        clearTimeout(late);
+        return done([n, took.sort((one, other) => one - other), Math.max(...[...chart.querySelectorAll('path')].map(one => one.getAttribute('d').length))]);
+    }
+    x += n % 16 < 8 ? 7 : -7;
+    if (n % 3) point('pointermove');
+    else chart.dispatchEvent(new WheelEvent('wheel', { deltaY: n % 2 ? 40 : -40, clientX: box.left + 0.6 * box.width, clientY: y, bubbles: true, cancelable: true }));
+    requestAnimationFrame(next);
+};
+point('pointerdown');
+requestAnimationFrame(next);
 """
+STANDARD = """
+const [frames, seconds, done] = arguments, chart = document.getElementById('viewer-chart'), root = chart.cloneNode(false), NS = 'http://www.w3.org/2000/svg';
+const numbers = Float64Array.from({ length: 1 << 17 }, (_, n) => n * 7919 % 1009), late = setTimeout(() => done(0), 1000 * seconds);
+root.id = 'standard';
+root.setAttribute('viewBox', '0 0 1400 500');
+root.style.height = '500px';
+chart.before(root);
+const area = (lane, turn) => {
+    let path = `M0 ${100 * lane + 50}`, back = '', dice = 7 + lane + turn;
+    for (let c = 0; c < 1300; c++) {
+        dice = dice * 16807 % 2147483647;
+        path += `H${c}V${100 * lane + dice % 50}`;
+        back = `H${c}V${100 * lane + 51 + dice % 47}${back}`;
+    }
+    return path + `V${100 * lane + 50}${back}z`;
+};
+const paths = ['#0072B2', '#222222', '#D55E00', '#882255'].map(fill => Object.assign(root.appendChild(document.createElementNS(NS, 'path')), { fill }));
+let n = 0, sum = 0;
+const next = () => {
+    if (n++ === frames) {
+        root.remove();
+        clearTimeout(late);
+        return done(n + 0 * sum);
+    }
+    for (let pass = 0; pass < 16; pass++) {
+        let least = Infinity;
+        for (const one of numbers) if (one + pass < least) least = one + pass;
+        sum += least;
+    }
+    paths.forEach((path, lane) => {
+        path.setAttribute('fill', path.fill);
+        path.setAttribute('d', area(lane, n));
+    });
+    requestAnimationFrame(next);
+};
+requestAnimationFrame(next);
+"""
+"""Frames of a picture that nothing of the page draws, of four areas as wide as the chart. What they take says how slow the machine is, also by its load."""
+
+
+def cost(browser: Browser, script: str, *words: Any) -> tuple[float, float, Any]:
+    """What a painted frame takes of a processor: the browser's busiest thread, and all its threads; and what the script answers."""
+    begun = threads_s(os.getpid())
+    answer = browser.run_later(script, FRAMES, *words, GIVE_UP_S)
+    took = [after - begun.get(thread, 0) for thread, after in threads_s(os.getpid()).items()]
+    return max(took) / FRAMES, sum(took) / FRAMES, answer
+
+
+def is_fluid(browser: Browser, images: int, axis: str, part: float) -> bool:
+    """Drags and zooms once, a frame after the other, as the browser paints them; and once the standard picture."""
+    busiest, all_, (count, took, longest) = cost(browser, FRAME, axis, part)
+    standard, all_standard, other = cost(browser, STANDARD)
+    if len(took) != FRAMES or other != FRAMES + 1:
+        print(f"page: the browser painted {count} frames in {GIVE_UP_S} s, and {other} of the standard picture", flush=True)
+        return False
+    slower, usual = max(1, standard / STANDARD_S), USUAL[images, axis, part]
+    print(f"page: {images} image{'s' * (images > 1)}, {part:g} of all by {axis}: a painted frame takes {1000 * busiest:.0f} ms of the busiest thread, {1000 * all_:.0f} of all"
+          f" ({all_ / all_standard:.2f} standard pictures, usually {usual}), {took[FRAMES // 2]:.0f} of wall time; the machine is {slower:.1f} times as slow", flush=True)
+    assert longest < 50_000, "a path grows as the events do"
+    return busiest <= FRAME_S * slower and (all_ <= MOST * usual * all_standard or not isinstance(browser, Chromium))
 
 
 def frames(browser: Browser, images: int) -> int:
-    """Pans and zooms: how long the script and the layout of a frame take, without painting. The smaller of wall time and processor time is in time for
-    nine of ten frames, at the best of several tries."""
-    count = 0
-    for axis, part in (("moment", 1), ("moment", 0.1), ("place", 1), ("place", 0.001)):
-        found: list[float] = []
-        while not found or min(found) > SLOWER * FRAME_S and len(found) < TRIES:
-            begun = processor_s(os.getpid())
-            took, longest = browser.run(FRAME, FRAMES, axis, part)
-            processor, wall = (processor_s(os.getpid()) - begun) / len(took), took[len(took) * 9 // 10] / 1000
-            found.append(min(wall, processor))
-            print(f"page: {images} image{'s' * (images > 1)}, {part:g} of all by {axis}: nine frames of ten in {1000 * wall:.0f} ms, half of them in"
-                  f" {took[len(took) // 2]:.0f} ms; a frame takes {1000 * processor:.0f} ms of a processor", flush=True)
-            count += len(took)
-            assert longest < 50_000, "a path grows as the events do"
-        assert min(found) <= SLOWER * FRAME_S, found
-    return count
+    """30 frames a second, at the best of several tries: no thread runs for longer than that takes on an idle machine. And a frame takes no more than
+    usual, compared with a standard picture, which a load makes dearer too."""
+    for axis, part in WINDOWS:
+        assert any(is_fluid(browser, images, axis, part) for _ in range(TRIES)), (images, axis, part)
+    return len(WINDOWS) * FRAMES
 
 
-def fluid(browser: Browser, _page: Path, _folder: Path) -> int:
+@contextlib.contextmanager
+def fresh(browser: Browser, page: Path) -> Iterator[Browser]:
+    """The page in a browser of its own: one that has run the other checks may paint no frame."""
+    with type(browser)() as own:
+        own.open(page)
+        yield own
+
+
+def fluid(browser: Browser, page: Path, _folder: Path) -> int:
     """1,000,000 events in one image and in two, all of whose signals change at random: the first picture, and frames. They aren't read from a file."""
     count = 0
-    for images in (1, 2):
-        begun = processor_s(os.getpid())
-        picture = browser.run(RESTLESS, MOST_SEEN // images, images) / 1000
-        processor = processor_s(os.getpid()) - begun  # (with what makes the list)
-        print(f"page: {MOST_SEEN} events in {images} image{'s' * (images > 1)}: the first picture in {picture:.2f} s", flush=True)
-        assert min(picture, processor) <= SLOWER * PICTURE_S, (picture, processor)
-        count += frames(browser, images)
+    with fresh(browser, page) as own:
+        for images in (1, 2):
+            begun = sum(threads_s(os.getpid()).values())
+            picture = own.run(RESTLESS, MOST_SEEN // images, images) / 1000
+            processor = sum(threads_s(os.getpid()).values()) - begun  # (with what makes the list)
+            print(f"page: {MOST_SEEN} events in {images} image{'s' * (images > 1)}: the first picture in {picture:.2f} s, {processor:.2f} s of a processor", flush=True)
+            assert min(picture, processor) <= PICTURE_S, (picture, processor)
+            count += frames(own, images)
     return count
 
 
-def drawn(browser: Browser, folder: Path, events: int, seconds: int, images: int) -> int:
+def drawn(browser: Browser, page: Path, folder: Path, events: int, seconds: int, images: int) -> int:
     """The first picture after the records are read; of several images the last one's, which has all of them. Then the frames."""
-    for number in range(images):
-        path = long_image(folder, events // images, number)
-        browser.run(PICTURE)
-        browser.hand(path)
-        browser.until("return window.picture !== null", seconds)
-    assert browser.run("return window.gaknifur.ask.viewer.layers.map(({ axis }) => axis.x.length)") == [events // images] * images
-    picture = browser.run("return window.picture") / 1000
-    print(f"page: {events} events in {images} image{'s' * (images > 1)} that are read: the first picture in {picture:.2f} s", flush=True)
-    assert picture <= SLOWER * PICTURE_S, picture
-    return frames(browser, images)
+    with fresh(browser, page) as own:
+        for number in range(images):
+            path = long_image(folder, events // images, number)
+            own.run(PICTURE)
+            begun = sum(threads_s(os.getpid()).values())
+            own.hand(path)
+            own.until("return window.picture !== null", seconds)
+        processor = sum(threads_s(os.getpid()).values()) - begun  # (with what reads the last image)
+        assert own.run("return window.gaknifur.ask.viewer.layers.map(({ axis }) => axis.x.length)") == [events // images] * images
+        picture = own.run("return window.picture") / 1000
+        print(f"page: {events} events in {images} image{'s' * (images > 1)} that are read: the first picture in {picture:.2f} s", flush=True)
+        assert min(picture, processor) <= PICTURE_S, (picture, processor)
+        return frames(own, images)
 
 
-def fluid_read(browser: Browser, _page: Path, folder: Path) -> int:
+def fluid_read(browser: Browser, page: Path, folder: Path) -> int:
     """30,000 events in two images."""
-    return drawn(browser, folder, SEEN_EVENTS, 60, 2)
+    return drawn(browser, page, folder, SEEN_EVENTS, 60, 2)
 
 
-def fluid_long(browser: Browser, _page: Path, folder: Path) -> int:
+def fluid_long(browser: Browser, page: Path, folder: Path) -> int:
     """1,000,000 events."""
-    return drawn(browser, folder, MOST_SEEN, 900, 1)
+    return drawn(browser, page, folder, MOST_SEEN, 900, 1)
 
 
-def fluid_two_long(browser: Browser, _page: Path, folder: Path) -> int:
+def fluid_two_long(browser: Browser, page: Path, folder: Path) -> int:
     """1,000,000 events in two images."""
-    return drawn(browser, folder, MOST_SEEN, 900, 2)
+    return drawn(browser, page, folder, MOST_SEEN, 900, 2)
 
 
 CHECKS = {"opens": (opens, RUNS + STEPS), "marks": (marks, 2 * MARKS), "fluid": (fluid, 8 * FRAMES), "fluid_read": (fluid_read, 4 * FRAMES)}

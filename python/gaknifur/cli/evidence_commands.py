@@ -47,7 +47,7 @@ def redact(given: SimpleNamespace, progress: Progress) -> int:
     """Runs `lab redact`."""
     from ..evidence import redaction
     count, judged = redaction.redact(given.source, given.folder, progress)
-    sys.stdout.write(f"{shown(given.folder.name)}: {redaction.SAYS}; {count} entries\n"
+    sys.stdout.write(f"{shown(given.folder.name)}: {redaction.SAYS}; {redaction.entries_text(count)} left out\n"
                      f"keep {shown(redaction.key_of(given.folder).name)}, and don't hand it out: with it lab verify shows of which image the copy was made\n")
     sys.stdout.flush()
     return say_verdict(given.source, judged)

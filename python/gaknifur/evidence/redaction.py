@@ -125,6 +125,11 @@ def digested(journal: Journal, key: bytes) -> Iterable[Json]:
                    "before_hmac_sha256": keyed(journal.path, key, record["byte"], size), "after_sha256": digest(line_of(record))}
 
 
+def entries_text(count: int) -> str:
+    """How many entries, with the verb."""
+    return "1 entry is" if count == 1 else f"{count} entries are"
+
+
 def redact(source: Path, folder: Path, progress: Progress = silent) -> tuple[int, Verdict]:
     """Makes the copy of an image or a bag, and its key next to it; returns how many entries are left out, and the verdict of the image."""
     image, sealed = image_of(source)
@@ -167,7 +172,7 @@ def verify(folder: Path, original: Path | None, key: Path | None) -> Verificatio
     if found.faults:
         return found
     found.shown.append(f"a redacted copy of a journal: {SAYS}")
-    found.shown.append(f"each of {len(FILES)} files has the digest in {REDACTED}; {len(copy['records'])} entries are left out")
+    found.shown.append(f"each of {len(FILES)} files has the digest in {REDACTED}; {entries_text(len(copy['records']))} left out")
     if original is not None and key is not None:
         check_original(copy, original, key, found)
     else:

@@ -100,7 +100,7 @@ export function draw(root: SVGSVGElement, plot: Plot): (index: number) => void {
                 plot.label ? plot.label(x * plot.per) : x.toLocaleString("en")));
     }
     parts.push(svg("text", { x: width - RIGHT, y: height - 3, "text-anchor": "end", class: "axis" }, plot.unit),
-        svg("text", { x: LEFT, y: height - 3, class: "axis" }, "km/h"),
+        svg("text", { x: LEFT - 6, y: TOP - 2, "text-anchor": "end", class: "axis" }, "km/h"),
         line(plot.limit, plot, X, Y, "limit-line", (x, y) => `H${x}V${y}`),
         line(plot.speed, plot, X, Y, "speed-line", (x, y) => `L${x} ${y}`));
     if (curve.length) {

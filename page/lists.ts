@@ -73,10 +73,14 @@ export class Lists {
 
 function isDrawn(one: Braking): boolean { return one.answer !== "standing" && one.answer !== "too_few"; }
 
-/** A pair as text: one number where both are the same, and ? for a bound that isn't known. */
-export function pairText(pair: Pair, text: (number: number) => string): string {
-    const [least, most] = pair.map(one => one === null ? "?" : text(one));
-    return least === most ? `${least}` : `${least} to ${most}`;
+/** A text whose last word, a unit, stays in the line of its number. */
+function inLine(text: string): string { return text.replace(/ (\S+)$/, "\u00a0$1"); }
+
+/** A pair as text, with its unit once: one number where both are the same, and ? for a bound that isn't known. */
+function pairText([least, most]: Pair, text: (number: number) => string): string {
+    if (least === null) return "?";
+    if (most === null) return inLine(`${text(least)} to ?`);
+    return inLine(least === most ? text(most) : `${text(least).replace(/ .*/, "")} to ${text(most)}`);
 }
 
 function rateText(rate: number): string { return `${(rate / 100).toFixed(2)} m/s²`; }
@@ -100,9 +104,9 @@ function brakingCells(one: Braking): Child[] {
     const { deceleration_cm_per_s2: b, reaction_ms: t, promised_cm: way } = one;
     const promised = b === null || t === null
         ? BRAKED.noTrain
-        : `${rateText(b)} after ${seconds(t)}${way === null ? "" : `, ${metres(way)}`}`;
+        : inLine(`${rateText(b)} after ${seconds(t)}${way === null ? "" : `, ${metres(way)}`}`);
     return [
-        events, make("span", {}, command, trip), one.speed_m_per_h === null ? "?" : `${kmh(one.speed_m_per_h)} km/h`,
+        events, make("span", {}, command, trip), one.speed_m_per_h === null ? "?" : inLine(`${kmh(one.speed_m_per_h)} km/h`),
         make("span", { class: one.answer === "not_slowed" ? "bad" : "" }, BRAKED.answers[one.answer]),
         both(one.begins_ms, one.begins_cm),
         isSeen && one.answer !== "not_slowed" && pairText(one.rate_cm_per_s2, rateText),

@@ -57,9 +57,9 @@ def braked(browser: Browser, _page: Path, folder: Path) -> int:
     assert sorted(rows) == [0, 8, 22, 30] and all(rows[event]["answer"] == "standing" and rows[event]["way_cm"] == [None, None] for event in (0, 22)), rows
     for event, wanted in WANTED.items():
         assert rows[event] == {"first_event": event, **wanted}, (event, rows[event])
-    cells = browser.run("return [...document.querySelectorAll('#braking tbody tr')].map(line => [...line.cells].map(cell => cell.innerText.replaceAll('\\n', '; ')))")
-    assert cells[1] == ["8 to 19", "emergency brake", "52.0 km/h", "stops", "0 s to 3 s; 14.40 m to 27.40 m", "2.40 m/s² to 7.23 m/s²",
-                        "standstill; 4 s to 7 s; 53.40 m", "0.70 m/s² after 2 s, 177.92 m", "reaction: not sure; rate: kept; way: kept"], cells[1]
+    cells = browser.run("return [...document.querySelectorAll('#braking tbody tr')].map(line => [...line.cells].map(cell => cell.innerText.replaceAll('\\n', '; ').replaceAll('\\u00a0', ' ')))")
+    assert cells[1] == ["8 to 19", "emergency brake", "52.0 km/h", "stops", "0 to 3 s; 14.40 to 27.40 m", "2.40 to 7.23 m/s²",
+                        "standstill; 4 to 7 s; 53.40 m", "0.70 m/s² after 2 s, 177.92 m", "reaction: not sure; rate: kept; way: kept"], cells[1]
     assert cells[3][3:] == ["isn't seen to slow down", "4 s to ?; 314.40 m to ?", "", "end of the records; 4 s to ?; 314.40 m", "0.70 m/s² after 2 s, 177.92 m",
                             "reaction: broken; way: broken"], cells[3]
     browser.run("document.querySelectorAll('#braking tbody tr')[1].click()")

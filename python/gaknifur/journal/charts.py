@@ -31,6 +31,8 @@ SEVERITY = {"none": 0, "service": 1, "emergency": 2}
 AXES = {"distance": ("place from the power-up of the life, m", "place_cm", 100.0),
         "time": ("moment of the clock in the life, s", "time_ms", 1000.0), "event": ("event", "event", 1.0)}
 MOST_DRAWN, MOST_MARKS, MOST_LABELS, COLUMNS = 6000, 120, 14, 400
+MOST_POINTS = 150
+"""Up to so many records have points of their own on the line; of more, those above the limit are small, so that they don't cover it."""
 MOST_SIGNS, BARS = 60, 90
 """Up to MOST_SIGNS telegrams have signs of their own; for more, the picture shows their number in each of BARS parts of the way."""
 
@@ -141,11 +143,12 @@ def draw_lines(main: Any, x: Any, speed: Any, limit: Any, axis: str) -> None:
     """Draws speed and limit, which hold from their event until the next one. Over distance and time the speed is drawn as a slope
     between two readings, like the train's own speed."""
     main.plot(x, limit, drawstyle="steps-post", color=INK, lw=1.1, label="limit")
+    has_room = len(x) <= MOST_POINTS
     main.plot(x, speed, drawstyle="steps-post" if axis == "event" else "default", color=SPEED, lw=1.6, label="speed",
-              marker="." if len(x) <= 150 else None, ms=4)
+              marker="." if has_room else None, ms=4)
     above = np.where(speed > limit, speed, np.nan)
     if not np.isnan(above).all():
-        main.plot(x, above, "D", color=ABOVE, ms=3.2, label="above the limit", ls="none", zorder=6)
+        main.plot(x, above, "D" if has_room else ".", color=ABOVE, ms=3.2 if has_room else 2.2, label="above the limit", ls="none", zorder=6)
 
 
 def extreme(pick: Any, values: Any) -> float:
@@ -209,7 +212,7 @@ def draw_marks(main: Any, picture: Picture, table: pd.DataFrame, x: Any, speed: 
     fronts = np.array([numbers(table, name) / 100 for name in ("min_safe_front_cm", "max_safe_front_cm")])
     for row, place in shown:
         height = 0.0 if np.isnan(speed[place]) else speed[place]
-        if picture.axis == "distance" and not np.isnan(fronts[:, place]).any() and len(table) <= 150:
+        if picture.axis == "distance" and not np.isnan(fronts[:, place]).any() and len(table) <= MOST_POINTS:
             main.plot(fronts[:, place], [height] * 2, color=SPEED, lw=4, alpha=0.22, solid_capstyle="butt", zorder=4, label=label)
             label = None
         dot, = main.plot([x[place]], [height], "o", mfc="white", mec=SPEED, mew=1, ms=5, zorder=5, clip_on=False)

@@ -18,8 +18,8 @@ NO_FORMULA = ("=", "+", "-", "@", "\t", "\r")
 SHEET, NO_ROWS = "xl/worksheets/sheet1.xml", (b"<sheetData></sheetData>", b"<sheetData/>", b"<sheetData />")
 LONGEST, RETURN = 32_767, {"\r": "&#13;"}
 """The longest text of a cell, and the carriage return, which a reader of XML takes for a line feed."""
-AT_ONCE = 4096
-"""The number of rows that are in memory as text."""
+AT_ONCE, LEVEL = 4096, 3
+"""The number of rows that are in memory as text, and the level of compression: twice as fast as the usual one, for a fifth more bytes."""
 
 
 def text_of(value: str, quoted: int) -> str:
@@ -89,7 +89,7 @@ def workbook(table: pd.DataFrame, notes: list[str]) -> bytes:
     """The workbook of a table, with notes."""
     data, quoted = empty_book(notes)
     out = io.BytesIO()
-    with ZipFile(io.BytesIO(data)) as book, ZipFile(out, "w", ZIP_DEFLATED) as new:
+    with ZipFile(io.BytesIO(data)) as book, ZipFile(out, "w", ZIP_DEFLATED, compresslevel=LEVEL) as new:
         for entry in book.infolist():
             part = book.read(entry)
             if entry.filename != SHEET:

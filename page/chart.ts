@@ -21,7 +21,7 @@ export interface Plot {
     /** What is said where there is nothing to draw. */
     empty?: string
 }
-const LEFT = 46, RIGHT = 12, TOP = 12, BOTTOM = 34, COLUMNS = 700, MOST_DOTS = 400, NARROW = 560;
+const LEFT = 46, RIGHT = 12, TOP = 22, BOTTOM = 34, COLUMNS = 700, MOST_DOTS = 400, NARROW = 560;
 
 /** The indexes that are drawn: of each column the first, the last, and the least and the greatest of some values. */
 export function thinned(x: number[], values: (number|null)[]): number[] {
@@ -100,7 +100,7 @@ export function draw(root: SVGSVGElement, plot: Plot): (index: number) => void {
                 plot.label ? plot.label(x * plot.per) : x.toLocaleString("en")));
     }
     parts.push(svg("text", { x: width - RIGHT, y: height - 3, "text-anchor": "end", class: "axis" }, plot.unit),
-        svg("text", { x: LEFT - 6, y: TOP - 2, "text-anchor": "end", class: "axis" }, "km/h"),
+        svg("text", { x: LEFT - 6, y: TOP - 12, "text-anchor": "end", class: "axis" }, "km/h"),
         line(plot.limit, plot, X, Y, "limit-line", (x, y) => `H${x}V${y}`),
         line(plot.speed, plot, X, Y, "speed-line", (x, y) => `L${x} ${y}`));
     if (curve.length) {

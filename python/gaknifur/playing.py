@@ -13,7 +13,7 @@ import os
 import subprocess
 import tempfile
 import threading
-from collections.abc import Generator, Iterable, Mapping
+from collections.abc import Callable, Generator, Iterable, Mapping
 from pathlib import Path
 from typing import IO, Any, Literal
 
@@ -22,6 +22,7 @@ from .program import DEVICE, REFUSED, WHOLE, Failed
 
 Result = dict[str, Any]
 Which = Literal["all", "last", "changes", "none"]
+ReadsResult = Callable[[bytes], Result]
 AHEAD = 8
 """64 times as many images are at most written before they are read: then their results fill the pipe."""
 LONGEST = 1 << 23
@@ -66,6 +67,17 @@ def line_of(scenario: Mapping[str, Any]) -> bytes:
     return json.dumps(scenario if "scenario" in scenario else {"scenario": scenario}, separators=(",", ":")).encode()
 
 
+def result_of(line: bytes) -> Result:
+    """The object on a line that the program printed."""
+    try:
+        found = json.loads(line)
+    except ValueError:
+        found = None
+    if not isinstance(found, dict) or not line.endswith(b"\n"):
+        raise Died("etcs_lab play printed a line that isn't a JSON object, or only a part of one", REFUSED)
+    return found
+
+
 def play(scenarios: Iterable[Mapping[str, Any]], *, slots: int = 16, outputs: Which = "last",
          images: Path | None = None) -> Generator[Result, None, None]:
     """The result of each scenario, in order. `slots` is the number of slots of each journal, `outputs` selects the outputs of a result, and
@@ -74,8 +86,8 @@ def play(scenarios: Iterable[Mapping[str, Any]], *, slots: int = 16, outputs: Wh
     yield from played(map(line_of, scenarios), slots, outputs, images)
 
 
-def played(lines: Iterable[bytes], slots: int, outputs: Which, images: Path | None) -> Generator[Result, None, None]:
-    """The result of each input line."""
+def played(lines: Iterable[bytes], slots: int, outputs: Which, images: Path | None, result: ReadsResult = result_of) -> Generator[Result, None, None]:
+    """The result of each input line, which a function reads from the line that is printed."""
     words = [program.find(), "play", f"--slots={slots}", f"--outputs={outputs}", *([] if images is None else [f"--images={images}"])]
     count = 0
     with tempfile.TemporaryFile() as errors:
@@ -88,7 +100,7 @@ def played(lines: Iterable[bytes], slots: int, outputs: Which, images: Path | No
         feeder.start()
         try:
             for line in process.stdout:
-                yield result_of(line)
+                yield result(line)
                 count += 1
             status = process.wait()
             feeder.join()
@@ -106,17 +118,6 @@ def played(lines: Iterable[bytes], slots: int, outputs: Which, images: Path | No
         raise Died(f"etcs_lab ended with status {status}, after {count} results", status if status > 0 else REFUSED)
 
 
-def result_of(line: bytes) -> Result:
-    """The object on a line that the program printed."""
-    try:
-        found = json.loads(line)
-    except ValueError:
-        found = None
-    if not isinstance(found, dict) or not line.endswith(b"\n"):
-        raise Died("etcs_lab play printed a line that isn't a JSON object, or only a part of one", REFUSED)
-    return found
-
-
 def on_a_line(scenario: bytes) -> bytes | None:
     """A scenario's JSON on one line. None if that can't be: it isn't a JSON object, or very long; such a scenario is left to `etcs run`."""
     def refuse(name: str) -> None:
@@ -129,14 +130,16 @@ def on_a_line(scenario: bytes) -> bytes | None:
     return scenario.translate(ON_A_LINE) if is_object else None
 
 
-def play_images(scenarios: Iterable[tuple[bytes, int]], folder: Path, outputs: Which = "all") -> Generator[tuple[Result, bytes], None, None]:
+def play_images(scenarios: Iterable[tuple[bytes, int]], folder: Path, outputs: Which = "all",
+                result: ReadsResult = result_of) -> Generator[tuple[Result, bytes], None, None]:
     """The result of each scenario or list of scenarios, which is given as its JSON on one line and its number of slots, and its
     journal image, that of a list after its last life; no bytes if it can't be run. Until the next result is taken its images are in the folder
     (`image_in`), which contains no other image."""
-    for result in played((b'{"slots":%d,"scenario":%b}' % (slots, one) for one, slots in scenarios), 16, outputs, folder):
-        paths = [image_in(folder, life) for life in lives_of(result) if life.get("image") is not None]
+    lines = (b'{"slots":%d,"scenario":%b}' % (slots, one) for one, slots in scenarios)
+    for found in played(lines, 16, outputs, folder, result):
+        paths = [image_in(folder, life) for life in lives_of(found) if life.get("image") is not None]
         try:
-            yield result, bytes_of(paths[-1]) if paths else b""
+            yield found, bytes_of(paths[-1]) if paths else b""
         finally:
             for path in paths:
                 with contextlib.suppress(FileNotFoundError):
@@ -155,9 +158,12 @@ def image_in(folder: Path, result: Result) -> str:
 
 
 def bytes_of(path: str) -> bytes:
-    """The bytes of a file, in half the time of a `Path`."""
-    with open(path, "rb", 0) as file:
-        return file.read()
+    """The bytes of a file, in a fraction of the time of a `Path`."""
+    file = os.open(path, os.O_RDONLY | os.O_CLOEXEC)
+    try:
+        return program.all_of(file)
+    finally:
+        os.close(file)
 
 
 ENDED = {"done": "carried out", "stopped": "stopped {number} {name}", "refused": "refused {fault} {name}"}

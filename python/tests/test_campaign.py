@@ -77,6 +77,8 @@ class Handed(unittest.TestCase):
         self.assertLess(len(pickle.dumps(one)), 200)
         self.assertEqual(one.content, (("scenario.json", random_lives.scenario(random.Random("7/0"))),))
         self.assertEqual(one.sha256, Job(one.name, "scenario", one.content, 64).sha256)
+        other, = campaign.at_random(1, 7, None)
+        self.assertEqual((one.size, other.size), (64, random_lives.slots_for(one.content[0][1])))
 
     def test_no_job(self) -> None:
         self.assertEqual(self.handed([], 1.0), [])

@@ -48,6 +48,12 @@ def blocks_of(*modes: str, event: int = 0) -> list[list[bytes]]:
     return [[record_bytes(event, "powerup", "SB", 0)], [record_bytes(at, "clock", mode, 100 * at) for at, mode in enumerate(modes, event + 1)]]
 
 
+def line_of(outputs: list[Json], events: int) -> bytes:
+    """The line of a scenario that was carried out, as `etcs_lab play` prints it."""
+    return json.dumps({"id": None, "line": 7, "status": "done", "events": events, "trips": 0, "service_brakes": 0, "emergency_brakes": 0, "sha256": None,
+                       "image": 7, "outputs": outputs}, separators=(",", ":")).encode() + b"\n"
+
+
 def output(event: int, mode: str) -> Json:
     """The output of a record."""
     return {"event": event, "mode": mode, "level": None, "brake": "emergency", "limit_m_per_h": 40_000, "indications": ["trip"]}
@@ -63,7 +69,10 @@ class Images(unittest.TestCase):
             "block": 3, "byte": layout.slot_at(3) + 1024, "event": 2, "life": 1, "kind": "odometer", "time_ms": 9, "mode": "TR", "level": None,
             "brake": "emergency", "indications": ["trip"], "place_cm": -7, "uncertainty_cm": 500, "min_safe_front_cm": -507, "max_safe_front_cm": 493,
             "limit_m_per_h": 40_000, "movement_cm": -5, "speed_m_per_h": 7})
-        self.assertEqual(played_image.answers(image_of(*blocks_of("FS", "TR"))).place_cm, (0, 100, 200))
+        self.assertEqual(played_image.answers(image_of(*blocks_of("FS", "TR"))), played_image.Answers(range(3), 1, 200, [
+            (event, mode, None, "emergency", 40_000, ["trip"]) for event, mode in enumerate(("SB", "FS", "TR"))], line_of(
+                [output(1, "FS"), output(2, "TR")], 2).partition(b"[")[2][:-3]))
+        self.assertIsNone(played_image.answers(played_image.empty(SLOTS)))
         self.assertEqual(played_image.records(played_image.empty(SLOTS)), [])
 
     def test_what_is_no_such_image(self) -> None:
@@ -134,8 +143,8 @@ class Rows(unittest.TestCase):
 
     def rows(self, results: Iterable[tuple[Result, bytes] | Exception], count: int) -> list[Row]:
         """The rows, where the program has these results."""
-        def play_images(scenarios: Iterable[tuple[bytes, int]], folder: Path, outputs: str) -> Iterator[tuple[Result, bytes]]:
-            self.assertEqual(outputs, "changes")
+        def play_images(scenarios: Iterable[tuple[bytes, int]], folder: Path, outputs: str, result: playing.ReadsResult) -> Iterator[tuple[Result, bytes]]:
+            self.assertEqual((outputs, result), ("changes", campaign_jobs.result_in))
             self.assertEqual(list(scenarios), [(b'{"number":%d}' % number, SLOTS) for number in range(count)])
             for one in results:
                 if isinstance(one, Exception):
@@ -166,18 +175,39 @@ class Rows(unittest.TestCase):
         outputs = [output(1, "FS"), output(3, "TR"), output(5, "FS")]
         for first, image in ((0, image_of(blocks_of()[0], *events, slots=8)), (2, image_of(blocks_of()[0], *events))):
             answers = played_image.answers(image)
-            self.assertEqual(answers.event[0], first)
-            campaign_jobs.check_outputs(outputs, 5, answers, image)
+            assert answers is not None
+            self.assertEqual(answers.events, range(first, 6))
+
+            def check(outputs: list[Json], count: int = 5) -> None:
+                """As an object, and as a line."""
+                result = campaign_jobs.result_in(line_of(outputs, count))
+                self.assertEqual((json.loads(b"[%b]" % result["text"]), result["events"], result["image"]), (outputs, count, 7))
+                for one in (result, {"events": count, "outputs": outputs}):
+                    campaign_jobs.check_outputs(one, answers, image)
+
+            check(outputs)
             self.assertTrue(campaign_jobs.are_outputs(outputs, answers))  # so that not all records are read
             for at in range(len(outputs)):
                 altered = [one | ({"limit_m_per_h": 7} if number == at else {}) for number, one in enumerate(outputs)]
                 with self.assertRaisesRegex(Missed, "the output of its record: event [1-5] mode (FS|TR) .*\n.* limit 7 "):
-                    campaign_jobs.check_outputs(altered, 5, answers, image)
+                    check(altered)
             with self.assertRaisesRegex(Missed, "the output of its record: event 5 mode FS"):
-                campaign_jobs.check_outputs(outputs[:-1], 5, answers, image)
+                check(outputs[:-1])
             for count in (4, 6):
                 with self.assertRaisesRegex(Missed, f"newest record of event {count}"):
-                    campaign_jobs.check_outputs(outputs, count, answers, image)
+                    check(outputs, count)
+
+    def test_a_text_that_is_that_of_the_records(self) -> None:
+        """It isn't parsed. What isn't the line of a scenario that was carried out is an object."""
+        image = image_of(*blocks_of("FS", "FS", "TR"))
+        line = line_of([output(1, "FS"), output(3, "TR")], 3)
+        with patch.object(campaign_jobs, "are_outputs", side_effect=AssertionError):
+            campaign_jobs.check_outputs(campaign_jobs.result_in(line), played_image.answers(image), image)
+        for other in (line.replace(b"done", b"stopped"), line.replace(b"null", b"7", 1), line.replace(b'"image":7', b'"image":null')):
+            self.assertEqual(campaign_jobs.result_in(other), json.loads(other))
+        for cut in (line[:-1], line[:-2], line[40:]):
+            with self.assertRaises(Died):
+                campaign_jobs.result_in(cut)
 
     def test_what_is_written(self) -> None:
         whole = image_of(*blocks_of("FS", "TR"), slots=8)

@@ -46,6 +46,14 @@ class Lives(unittest.TestCase):
             for group in (0, 2, 13, 16_383):
                 self.assertEqual(random_lives.telegram(group, packets), telegrams.telegram(f"NID_BG {group}; {packets}").digits)
 
+    def test_slots(self) -> None:
+        """By hand: a block for the power-up, one for each flush, one for each eight events, and one for the others."""
+        for text, slots in (({"groups": [], "steps": []}, 2), ({"groups": [], "steps": [{"clock": 1}] * 7}, 2), ({"groups": [], "steps": [{"clock": 1}] * 8}, 3),
+                            ({"groups": [], "steps": [{"drive": [20_000, 5]}] * 4}, 3), ({"groups": [], "steps": [{"flush": True}, {"clock": 1}] * 2}, 4),
+                            ({"groups": [{"at": 1}] * 3, "steps": [{"drive": [5_000, 5]}] * 2}, 3),
+                            ({"groups": [{"at": 1}], "steps": [{"drive": [-100, 5]}, {"drive": [100, 5]}]}, 3)):
+            self.assertEqual(random_lives.slots_for(json.dumps(text, separators=(",", ":")).encode()), slots, text)
+
     def test_kinds_of_steps(self) -> None:
         """In a hundred steps that are neither the beginning nor the end: 63 drives, 12 moments, 18 actions, 4 telegrams and 3 flushes."""
         count, of = 20_000, dict.fromkeys(("drive", "clock", "driver", "telegram", "flush"), 0)

@@ -14,8 +14,8 @@ from ..simulation import campaign, campaign_table
 if TYPE_CHECKING:
     from ..journal.reading import Progress
 
-SHOWN, SLOTS, SLOTS_OF_RANDOM = 10, 64, 24
-"""The number of unsound rows that are printed; and the slots of an image, and of that of a random life, which needs fewer."""
+SHOWN, SLOTS = 10, 64
+"""The number of unsound rows that are printed; and the slots of an image that isn't of a random life."""
 
 
 class Taking:
@@ -54,23 +54,18 @@ def run_jobs(given: SimpleNamespace, jobs: Iterator[campaign.Job], count: int, t
         taking.table.close()
 
 
-def slots_of(given: SimpleNamespace, usual: int) -> int:
-    """The slots of an image."""
-    return usual if given.slots is None else int(given.slots)
-
-
 def play_campaign(given: SimpleNamespace, progress: "Progress") -> int:
     """Runs `lab campaign`."""
     if given.folder is None and not given.random:
         raise Failed("campaign: a FOLDER or --random N is required", WRONG_WORDS)
     out = files.Out(given.csv, files.CAMPAIGN_TABLE, given.force) if given.csv else None
     files.check_all([out] if out else [], [given.out], [given.out])
-    jobs: campaign.Folder | list[campaign.Job] = campaign.Folder(given.folder, slots_of(given, SLOTS), given.replay) if given.folder else []
+    jobs: campaign.Folder | list[campaign.Job] = campaign.Folder(given.folder, SLOTS if given.slots is None else given.slots, given.replay) if given.folder else []
     if given.folder and not len(jobs):
         raise Failed(f"{given.folder}: contains no test case and no scenario; nothing was run", REFUSED)
     count = len(jobs) + given.random
     taking = Taking(campaign_table.Table(given.out, campaign_table.settings_of()), count, progress)
-    lives = campaign.at_random(given.random, given.seed, slots_of(given, SLOTS_OF_RANDOM), given.replay)
+    lives = campaign.at_random(given.random, given.seed, given.slots, given.replay)
     lost = run_jobs(given, taking.left(itertools.chain(jobs, lives)), count, taking)
     rows, bad, first = campaign_table.unsound(given.out, SHOWN)
     if out:

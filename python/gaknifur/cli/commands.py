@@ -375,7 +375,7 @@ SIMULATION = [
             Argument("paths", "[FOLDER] OUT.db", "run the case files and scenarios below FOLDER", nargs=-1, callback=folder_and_table, expose_value=False),
             option("--random", "also run this many random lives", "N", NATURAL, default=0),
             option("--seed", "seed of the random lives", "N", NATURAL, default=1, show_default=True),
-            option("--slots", "slots of each new image (default: 64; 24 for a random life, which needs fewer)", "N", NATURAL),
+            option("--slots", "slots of each new image (default: 64; of a random life as many as it needs)", "N", NATURAL),
             option("--replay", "run each scenario with `etcs run` on a file, and examine and replay its image"),
             JOBS, option("--scheduler", "use this Dask scheduler instead of local processes", "tcp://HOST:PORT"),
             option("--csv", "write the whole table at the end", "OUT.csv", PATH),

@@ -4,8 +4,9 @@ It reads format 3 of docs/reference/format.md, as this product writes it, and fa
 also reads other images, damaged ones too, decodes telegrams, and replays.
 """
 import hashlib
+import json
 import struct
-from collections.abc import Iterator, Sequence
+from collections.abc import Iterator
 from functools import lru_cache
 from typing import Any, NamedTuple
 
@@ -14,9 +15,11 @@ from ..units._header import Indication
 from . import layout
 from .reading import Json
 
-HEAD, RECORD = struct.Struct(">8sQQIB"), struct.Struct(">6BHQQqQI4x208s")
-STATE = struct.Struct(">xBBxBxHQ8xq8xI212x")
-"""What an answer needs of a record: mode, brake, level, indications, event, place and limit."""
+RECORD, HEAD_BYTES = struct.Struct(">6BHQQqQI4x208s"), 29
+SLOT = struct.Struct(f">{layout.SECTOR}s8sQQIB{layout.SECTOR - HEAD_BYTES}x{layout.SLOT - 2 * layout.SECTOR}s")
+"""A slot: its gate, the mark, number, count of events, life and count of records in its head, and its records."""
+STATE, EVENT = struct.Struct(">xBBxBxH32xI212x"), struct.Struct(">8xQ8xq224x")
+"""What an output needs of a record: mode, brake, level, indications and limit; and its event and place."""
 MARK, MOST_RECORDS, MOST_UNCERTAINTY = layout.HEAD_MARKS[2], 8, 1 << 62
 KINDS = {1: "powerup", 2: "telegram", 3: "odometer", 4: "clock", 5: "driver"}
 MODES = {0: "FS", 1: "OS", 2: "SR", 3: "SH", 4: "UN", 6: "SB", 7: "TR", 8: "PT", 9: "SF"}
@@ -30,17 +33,20 @@ SUBJECTS = {5: ("confirm", "confirmed", ("", "identity", "running_number", "trai
 EMPTY_SLOT = bytes(layout.SLOT)
 
 
-class Answers(NamedTuple):
-    """What the records say of the unit after each event, the oldest first: a column for each value, the first six as in a released output."""
+Output = tuple[int, str, int | None, str, int, list[str]]
+"""An output: event, mode, level, brake, limit and indications, in the order of a released one."""
 
-    event: Sequence[int] = ()
-    mode: Sequence[str] = ()
-    level: Sequence[int | None] = ()
-    brake: Sequence[str] = ()
-    limit_m_per_h: Sequence[int] = ()
-    indications: Sequence[list[str]] = ()
-    place_cm: Sequence[int] = ()
-    life: Sequence[int] = ()
+
+class Answers(NamedTuple):
+    """What the records say of the unit: their events, the number of lives, the place after the last event, and the outputs of the first event, of
+    the one after the first power-up, and of each event whose output differs from the one before. `text` is what `etcs_lab play` prints of these: all
+    but that of the power-up."""
+
+    events: range
+    lives: int
+    place_cm: int
+    changes: list[Output]
+    text: bytes
 
 
 class Block(NamedTuple):
@@ -58,10 +64,10 @@ def wrong(what: str) -> Failed:
     return Failed(f"the image of this run has {what}", REFUSED)
 
 
-gate, first_sector = lru_cache(1024)(layout.gate), lru_cache(16)(layout.first_sector)
+gate, first_sector = lru_cache(1024)(layout.gate), lru_cache(64)(layout.first_sector)
 
 
-@lru_cache(16)
+@lru_cache(64)
 def gates(slots: int) -> struct.Struct:
     """The numbers in the gates of an image."""
     return struct.Struct(f">{layout.SECTOR}x" + slots * f"8xQ{layout.SLOT - 16}x")
@@ -76,33 +82,52 @@ def blocks(image: bytes) -> Iterator[Block]:
     if numbers and not (numbers[-1] - numbers[0] == len(numbers) - 1 and len(numbers) == min(slots, numbers[-1])):
         raise wrong("lost blocks")
     before = None
-    for number in numbers:
-        at = layout.slot_at(number % slots)
-        *head, events, life, count = HEAD.unpack_from(image, at + layout.SECTOR)
-        if head != [MARK, number] or count > MOST_RECORDS or not image.startswith(gate(number), at):
+    for number, (own_gate, *head, events, life, count, records) in zip(numbers, SLOT.iter_unpack(in_order(image, numbers))):
+        if head != [MARK, number] or count > MOST_RECORDS or own_gate != gate(number):
             raise wrong(f"no valid block {number}")
-        first, start = events - count, at + 2 * layout.SECTOR
+        first = events - count
         if before not in (None, first):
             raise wrong(f"other events in block {number}")
         before = events
-        yield Block(number, at, life, first, image[start:start + count * RECORD.size])
+        yield Block(number, layout.slot_at(number % slots), life, first, records[:count * RECORD.size])
 
 
-def answers(image: bytes) -> Answers:
-    """What the records say of the unit. Fails unless each has the number that the heads give it."""
+def in_order(image: bytes, numbers: list[int]) -> bytes | memoryview:
+    """The slots of all blocks, the oldest first."""
+    at = layout.slot_at(numbers[0] % (len(image) // layout.SLOT)) if numbers else len(image)
+    end = at + len(numbers) * layout.SLOT
+    return memoryview(image)[at:end] if end <= len(image) else image[at:] + image[layout.SECTOR:at]
+
+
+@lru_cache(4096)
+def output_of(mode: int, brake: int, level: int, signs: int) -> tuple[str, int | None, str, list[str], bytes]:
+    """Mode, level, brake and indications of an output, and its JSON, in which its event and its limit are missing."""
+    names = MODES[mode], LEVELS[level], BRAKES[brake], INDICATIONS[signs]
+    texts = tuple(json.dumps(one, separators=(",", ":")) for one in names)
+    return *names, ('{"event":%%d,"mode":%s,"level":%s,"brake":%s,"limit_m_per_h":%%d,"indications":%s}' % texts).encode()
+
+
+def answers(image: bytes) -> Answers | None:
+    """What the records say of the unit; None if there are none. Fails unless each has the number that the heads give it."""
     found = list(blocks(image))
-    states = list(STATE.iter_unpack(b"".join(block.records for block in found)))
-    if not states:
-        return Answers()
-    mode, brake, level, signs, event, place, limit = zip(*states)
-    if event != tuple(range(found[0].first, found[0].first + len(states))):
+    data = b"".join(block.records for block in found)
+    if not data:
+        return None
+    event, place = zip(*EVENT.iter_unpack(data))
+    events = range(found[0].first, found[0].first + len(event))
+    if event != tuple(events):
         raise wrong("records with other numbers")
-    lives = [block.life for block in found for _ in range(0, len(block.records), RECORD.size)]
+    states, released = list(STATE.iter_unpack(data)), 1 - events.start
+    changes, text = list[Output](), list[bytes]()
     try:
-        return Answers(event, [MODES[one] for one in mode], [LEVELS[one] for one in level], [BRAKES[one] for one in brake], limit,
-                       [INDICATIONS[one] for one in signs], place, lives)
+        for at in [0, *(at for at, (one, other) in enumerate(zip(states, states[1:]), 1) if one != other or at == released)]:
+            *state, limit = states[at]
+            mode, level, brake, signs, one = output_of(*state)
+            changes.append((event[at], mode, level, brake, limit, signs))
+            text.append(one % (event[at], limit))
     except (KeyError, IndexError) as error:
         raise wrong("a record with an unknown value") from error
+    return Answers(events, len({block.life for block in found}), place[-1], changes, b",".join(text[events.start == 0:]))
 
 
 def records(image: bytes) -> list[Json]:
@@ -154,7 +179,7 @@ def action_of(code: int, values: bytes) -> Json:
     return {"action": "choose_level", "chosen_level": values[0]} if code == 4 else {"action": PLAIN_ACTIONS[code]}
 
 
-@lru_cache(16)
+@lru_cache(64)
 def empty(slots: int) -> bytes:
     """An empty image."""
     return layout.first_sector(slots).ljust(layout.slot_at(slots), b"\0")

@@ -44,7 +44,8 @@ class Job:
     """`scenario` or `case`."""
     files: tuple[tuple[str, bytes], ...]
     """Paths within the job, and their bytes; the first one is run. A random life has none."""
-    slots: int
+    slots: int | None
+    """The slots of its image; None for as many as a random life needs."""
     seed: str = ""
     """The seed of a random life."""
     is_replayed: bool = False
@@ -61,9 +62,15 @@ class Job:
         return (("scenario.json", random_lives.scenario(random.Random(self.seed))),)
 
     @functools.cached_property
+    def size(self) -> int:
+        """The slots of its image."""
+        from . import random_lives
+        return random_lives.slots_for(self.content[0][1]) if self.slots is None else self.slots
+
+    @functools.cached_property
     def sha256(self) -> str:
         """The SHA-256 of everything that is run."""
-        parts = [self.kind, str(self.slots), *(part for name, data in self.content for part in (name, hashlib.sha256(data).hexdigest()))]
+        parts = [self.kind, str(self.size), *(part for name, data in self.content for part in (name, hashlib.sha256(data).hexdigest()))]
         return hashlib.sha256("\n".join(parts).encode()).hexdigest()
 
 
@@ -100,7 +107,7 @@ class Folder:
         return Job(shown(name), kind, given, self.slots, is_replayed=self.is_replayed)
 
 
-def at_random(count: int, seed: int, slots: int, is_replayed: bool = False) -> Iterator[Job]:
+def at_random(count: int, seed: int, slots: int | None, is_replayed: bool = False) -> Iterator[Job]:
     """Random lives. The same seed gives the same lives."""
     for number in range(count):
         yield Job(f"random/{seed}/{number:07}", "scenario", (), slots, f"{seed}/{number}", is_replayed)

@@ -5,22 +5,23 @@ it writes, which are read in this process and deleted. `etcs run` and `etcs_lab`
 examination and a replay of the image are wanted, or where the scenario is no JSON object.
 """
 import contextlib
-import itertools
+import json
 import operator
 import os
+import re
 import socket
 import tempfile
 import time
-from collections.abc import Iterable, Iterator, Sequence
+from collections.abc import Iterator, Sequence
 from pathlib import Path
 from typing import TYPE_CHECKING
 
 from .. import etcs_run, program
 from ..etcs_run import CARRIED_OUT, Released
 from ..journal import played_image
-from ..journal.played_image import Answers
+from ..journal.played_image import Answers, Output
 from ..journal.reading import Json, read
-from ..playing import AHEAD, Died, Result, ended, on_a_line, play_images
+from ..playing import AHEAD, Died, Result, ended, on_a_line, play_images, result_of
 from ..program import DEVICE, Failed
 from ..testing import soundness
 from .campaign import Job, Row, row_without
@@ -54,7 +55,7 @@ def play_scenario(job: Job, folder: Path) -> Row:
     """Runs one life on a new image."""
     scenario, image = folder / "scenario.json", folder / "image"
     scenario.write_bytes(job.content[0][1])
-    program.format_image(image, job.slots)
+    program.format_image(image, job.size)
     run = etcs_run.run_life(scenario, image)
     return {"ended": run.ended, "sound": 1} | of_records(image, run.released)
 
@@ -71,23 +72,26 @@ def of_records(image: Path, released: list[Released]) -> Row:
     return row | values_of(journal.records)
 
 
-def values_of(records: Iterable[Json]) -> Row:
+def values_of(records: Sequence[Json]) -> Row:
     """The values of a row that come from records."""
-    return values(Answers(*zip(*([record[name] for name in Answers._fields] for record in records))))
-
-
-def values(answers: Answers) -> Row:
-    """The values of a row that come from the answers to all events."""
-    if not answers.event:
+    if not records:
         return {"events": 0, "lives": 0}
-    return {"events": len(answers.event), "lives": len(set(answers.life)), "mode": answers.mode[-1], "brake": answers.brake[-1],
-            "limit_m_per_h": answers.limit_m_per_h[-1], "place_cm": answers.place_cm[-1], "emergencies": count_starts(answers.brake, "emergency"),
-            "trips": count_starts(answers.mode, "TR")}
+    return values(len(records), len({one["life"] for one in records}), records[-1]["place_cm"], list(map(OUTPUT, records)))
 
 
-def count_starts(values: Sequence[str], value: str) -> int:
+OUTPUT = operator.itemgetter("event", "mode", "level", "brake", "limit_m_per_h", "indications")
+
+
+def values(events: int, lives: int, place_cm: int, outputs: list[Output]) -> Row:
+    """The values of a row. Of outputs that are like the one before only the first is needed."""
+    _, modes, _, brakes, limits, _ = zip(*outputs)
+    return {"events": events, "lives": lives, "mode": modes[-1], "brake": brakes[-1], "limit_m_per_h": limits[-1], "place_cm": place_cm,
+            "emergencies": starts(brakes, "emergency"), "trips": starts(modes, "TR")}
+
+
+def starts(values: Sequence[str], value: str) -> int:
     """How often a run of a value starts after another value."""
-    return sum(one == value for one, _ in itertools.groupby(values)) - (values[0] == value)
+    return sum(one != value == other for one, other in zip(values, values[1:]))
 
 
 def play_case(job: Job, folder: Path) -> Row:
@@ -134,17 +138,28 @@ def missed_by(case: "Case", outcome: "Outcome") -> tuple[int, list[str]]:
 
 # ---- scenarios that run together
 
+CARRIED = re.compile(rb'\{"id":null,"line":[0-9]+,"status":"done","events":([0-9]+),"trips":[0-9]+,"service_brakes":[0-9]+,"emergency_brakes":[0-9]+,'
+                     rb'"sha256":null,"image":([0-9]+),"outputs":\[(.*)\]\}\n')
+"""The line of a scenario that was carried out."""
+
+
+def result_in(line: bytes) -> Result:
+    """The result on a line. The outputs of a scenario that was carried out stay a text, since nearly always it is the text of the records."""
+    found = CARRIED.fullmatch(line)
+    return {"status": "done", "events": int(found[1]), "image": int(found[2]), "text": found[3]} if found else result_of(line)
+
+
 def row_of(job: Job, result: Result, image: bytes, folder: Path) -> Row:
     """The row of a scenario that ran with others."""
     how = ended(result)
     if how is None:
         return play(job, folder)
-    image = image or played_image.empty(job.slots)
+    image = image or played_image.empty(job.size)
     row = row_without(job, how) | {"sound": 1, "written_sha256": played_image.sha256(image)}
     try:
         answers = played_image.answers(image)
-        row |= values(answers)
-        check_outputs(result.get("outputs", []), result.get("events", 0), answers, image)
+        row |= values(len(answers.events), answers.lives, answers.place_cm, answers.changes) if answers else values_of([])
+        check_outputs(result, answers, image)
     except soundness.Missed as missed:
         row |= {"first_missed": str(missed), "sound": 0}
     except Failed as failed:
@@ -152,36 +167,35 @@ def row_of(job: Job, result: Result, image: bytes, folder: Path) -> Row:
     return row
 
 
-def check_outputs(changes: list[Json], count: int, answers: Answers, image: bytes) -> None:
-    """Fails unless each of `count` released outputs is that of its record, the last one of the newest record. Only those that change are given."""
-    newest = answers.event[-1] if answers.event else 0
+def check_outputs(result: Result, answers: Answers | None, image: bytes) -> None:
+    """Fails unless each released output is that of its record, the last one of the newest record. Only those that change are given."""
+    count, newest = result.get("events", 0), answers.events[-1] if answers else 0
     if newest != count:
         raise soundness.Missed(f"a newest record of event {count}, whose output was released last", f"one of event {newest}")
+    if answers is None or result.get("text") == answers.text:
+        return
+    changes = json.loads(b"[%b]" % result["text"]) if "text" in result else result["outputs"]
     if not are_outputs(changes, answers):
         ends = [*(one["event"] for one in changes[1:]), count + 1]
         outputs = (one | {"event": event} for one, end in zip(changes, ends) for event in range(one["event"], end))
         soundness.check_released(map(etcs_run.output_of, outputs), played_image.records(image))
 
 
-OUTPUT = operator.itemgetter(1, 2, 3, 4, 5)
-"""An output but for its event."""
-
-
 def are_outputs(changes: list[Json], answers: Answers) -> bool:
     """Whether the records agree with the outputs. One that isn't given is like the one before."""
-    given, states = [tuple(one.values()) for one in changes], zip(*answers[:6])
-    if answers.event[:1] == (0,):
-        next(states)  # a power-up, whose output isn't released
-    elif earlier := [one for one in given if one[0] <= answers.event[0]]:
-        given[:len(earlier)] = [(answers.event[0], *earlier[-1][1:])]
-    return given == [next(run) for _, run in itertools.groupby(states, OUTPUT)]
+    given, first = [tuple(one.values()) for one in changes], answers.events[0]
+    if first == 0:
+        return given == answers.changes[1:]  # the output of a power-up isn't released
+    if earlier := [one for one in given if one[0] <= first]:
+        given[:len(earlier)] = [(first, *earlier[-1][1:])]
+    return given == answers.changes
 
 
 def play_together(jobs: Sequence[tuple[Job, bytes]], folder: Path) -> Iterator[Row]:
     """Runs scenarios, each with its line, in one process, and yields their rows; fails with `Died` if the process dies."""
     left, start, worker = iter(jobs), time.perf_counter(), player()
     try:
-        with contextlib.closing(play_images(((line, job.slots) for job, line in jobs), folder, "changes")) as results:
+        with contextlib.closing(play_images(((line, job.size) for job, line in jobs), folder, "changes", result_in)) as results:
             for (result, image), (job, _) in zip(results, left):
                 row, before, start = row_of(job, result, image, folder), start, time.perf_counter()
                 yield row | {"seconds": round(start - before, 6), "worker": worker}
@@ -195,7 +209,7 @@ def play_together(jobs: Sequence[tuple[Job, bytes]], folder: Path) -> Iterator[R
 def play_all(jobs: list[Job]) -> list[Row]:
     """Runs jobs: scenarios together, and each other job by itself, in one folder."""
     try:
-        with program.temporary_folder(AHEAD * max(job.slots for job in jobs)) as name, program.same_environment():
+        with program.temporary_folder(AHEAD * max(job.size for job in jobs)) as name, program.same_environment():
             lines = [(job, line_of(job)) for job in jobs]
             together = [(job, line) for job, line in lines if line]
             rows = list(play_together(together, Path(name))) if together else []
@@ -210,7 +224,7 @@ MOST_TOGETHER = 4096
 
 def line_of(job: Job) -> bytes | None:
     """The scenario of a job on one line; None if the job can't run together with others."""
-    if job.kind != "scenario" or job.unread or job.is_replayed or job.slots > MOST_TOGETHER:
+    if job.kind != "scenario" or job.unread or job.is_replayed or job.size > MOST_TOGETHER:
         return None
     scenario = job.content[0][1]
     return scenario if job.seed else on_a_line(scenario)

@@ -16,8 +16,11 @@ ACTIONS = ([5, 1], [5, 2], [5, 3], [5, 4], [6], [7], [8], [9], [10, 1], [10, 2],
 WAYS_CM, BACK_CM = (100, 1_000, 5_000, 20_000), (0, 0, -100, -400)
 SPEEDS, BACK_SPEEDS = (5_000, 20_000, 40_000, 80_000, 120_000, 160_000), (0, 0, 3_000)
 WAITS_MS = (2_000, 10_000, 40_000)
+MOST_PENDING = 8
+"""The greatest number of events in a block."""
 HEAD_DIGITS, GROUP_SHIFT = 13, 3
 """The digits of a telegram that contain the number of its group, and the bits after it in them."""
+GROUP_0 = telegrams.telegram("NID_BG 0").header
 One = TypeVar("One")
 
 
@@ -39,9 +42,15 @@ def digits(text: str) -> str:
 # ---- telegrams
 
 @functools.cache
+def variables_of(packet: str) -> telegrams.Pairs:
+    """The variables of a packet. Each comes in many telegrams, and to read it takes longer than to write it."""
+    return telegrams.telegram(f"NID_BG 0; {packet}").packets[0]
+
+
+@functools.cache
 def of_group_0(packets: str) -> tuple[int, str]:
     """A telegram of group 0 with these packets: the number in its first digits, and the others."""
-    found = digits(f"NID_BG 0; {packets}")
+    found = telegrams.Telegram(GROUP_0, list(map(variables_of, packets.split("; ")))).digits
     return int(found[:HEAD_DIGITS], 16), found[HEAD_DIGITS:]
 
 
@@ -119,6 +128,14 @@ def groups(numbers: random.Random) -> list[str]:
     """Groups of one balise ahead of the start."""
     places = {1 + int((GROUPS_WITHIN_CM - 1) * numbers.random()) for _ in range(int((MOST_GROUPS + 1) * numbers.random()))}
     return [f'{{"at":{place},"spacing":300,"balises":["{announced(numbers, group)}"]}}' for group, place in enumerate(sorted(places), 10)]
+
+
+def slots_for(life: bytes) -> int:
+    """Slots in which no block of a random life is written over: for its power-up, each flush, and each eight events. A drive of 200 m has two
+    readings. A group that is passed makes a telegram and another reading; it is passed once, and twice more for each drive back."""
+    objects, drives_on, drives_back, flushes, groups = map(life.count, (b"{", b"[20000,", b"[-", b'"flush"', b'"at"'))
+    events = objects - 1 - groups - flushes + drives_on + 2 * groups * (1 + 2 * drives_back)
+    return 2 + events // MOST_PENDING + flushes
 
 
 def scenario(numbers: random.Random) -> bytes:

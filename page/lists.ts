@@ -106,7 +106,8 @@ function brakingCells(one: Braking): Child[] {
         ? BRAKED.noTrain
         : inLine(`${rateText(b)} after ${seconds(t)}${way === null ? "" : `, ${metres(way)}`}`);
     return [
-        events, make("span", {}, command, trip), one.speed_m_per_h === null ? "?" : inLine(`${kmh(one.speed_m_per_h)} km/h`),
+        events, make("span", {}, command, trip),
+        one.speed_m_per_h === null ? "?" : inLine(`${kmh(one.speed_m_per_h)} km/h`),
         make("span", { class: one.answer === "not_slowed" ? "bad" : "" }, BRAKED.answers[one.answer]),
         both(one.begins_ms, one.begins_cm),
         isSeen && one.answer !== "not_slowed" && pairText(one.rate_cm_per_s2, rateText),

@@ -72,8 +72,8 @@
  * one, where a lock (or a queue, or the start of the task) orders their calls: the library keeps nothing except its units,
  * and nothing per thread. Units share nothing, so different ones may be called from different threads at once; but where
  * memory is of the maker's own, see etcs_memory.h. Memory is taken by etcs_unit_begin and
- * etcs_unit_provide until the power-up is through, and by the calls that take an input; close gives all of it back. No call
- * blocks, and none is for a signal handler or an interrupt.
+ * etcs_unit_provide until the power-up is through, by the calls that take an input, and for the time of the call by
+ * etcs_unit_preview_telegram; close gives all of it back. No call blocks, and none is for a signal handler or an interrupt.
  *
  * Each call that this header defines stands in the library too, by the same name: for Ada, Python, and who else reads no
  * header. There the number of the interface isn't compared: compare etcs_abi first.
@@ -440,6 +440,74 @@ typedef struct {
     uint8_t has_left;           /**< 1 where the driver started after that or chose shunting; with an identity and a level that is the revalidation */
 } etcs_unit_driver_info;
 
+/** Why an action of the driver isn't accepted: the first of its conditions that fails, in this order. */
+enum etcs_refusal {
+    ETCS_REFUSAL_NONE = 0,                 /**< it is accepted */
+    ETCS_REFUSAL_OTHER_MODE = 1,           /**< the mode has no such action */
+    ETCS_REFUSAL_NOT_AT_STANDSTILL = 2,    /**< the train moves */
+    ETCS_REFUSAL_TOO_FAST = 3,             /**< the speed is above V_NVALLOWOVTRP, up to which the trip may be overridden */
+    ETCS_REFUSAL_NOTHING_TO_CONFIRM = 4,   /**< what is to be confirmed was never entered */
+    ETCS_REFUSAL_IDENTITY_NOT_VALID = 5,   /**< enter or confirm the identity first */
+    ETCS_REFUSAL_LEVEL_NOT_VALID = 6,      /**< choose or confirm the level first */
+    ETCS_REFUSAL_TRIP_OUTSTANDING = 7,     /**< acknowledge the trip first */
+    ETCS_REFUSAL_TRAIN_DATA_NOT_VALID = 8, /**< enter or confirm the train data first */
+    ETCS_REFUSAL_NO_TRIP = 9,              /**< no trip is to be acknowledged */
+    ETCS_REFUSAL_NOT_REQUESTED = 10        /**< this acknowledgement is neither asked for nor owed */
+};
+
+/** Why each action of the driver wouldn't be accepted as the next input. */
+typedef struct {
+    uint8_t actions[ETCS_ACTIONS]; /**< enum etcs_refusal of each enum etcs_action, at the place of its number; the first place is 0 */
+    uint8_t identity;              /**< the same of etcs_unit_identity, whatever its value */
+    uint8_t running_number;        /**< the same of etcs_unit_running_number */
+    uint8_t train_data;            /**< the same of etcs_unit_train_data */
+} etcs_unit_refusals_info;
+
+/** What becomes of a balise group (SUBSET-026, 3.4.4 and 3.16.2). The first three are accepted: their packets are used. */
+enum etcs_group_outcome {
+    ETCS_GROUP_ANNOUNCED = 1,        /**< it was announced */
+    ETCS_GROUP_NOT_LINKED = 2,       /**< it isn't linked */
+    ETCS_GROUP_LINKING_UNUSED = 3,   /**< it is linked, and no group was announced */
+    ETCS_GROUP_NOT_ANNOUNCED = 4,    /**< it is linked, and wasn't announced while others are */
+    ETCS_GROUP_WRONG_WAY = 5,        /**< it was passed in the wrong direction */
+    ETCS_GROUP_TOO_EARLY = 6,        /**< it came before the place where it is announced */
+    ETCS_GROUP_BALISE_MISSING = 7,   /**< a balise of it wasn't read, and no neighbour repeats it */
+    ETCS_GROUP_COUNTERS_DIFFER = 8,  /**< its message counters don't fit one another */
+    ETCS_GROUP_TELEGRAMS_DIFFER = 9  /**< its telegrams don't agree in N_TOTAL or in Q_LINK */
+};
+
+/** What linking asks for (Q_LINKREACTION). */
+enum etcs_reaction { ETCS_REACTION_TRIP = 0, ETCS_REACTION_SERVICE = 1, ETCS_REACTION_NONE = 2 };
+
+/** A balise group that an input closes. */
+typedef struct {
+    uint32_t country;         /**< NID_C */
+    uint32_t group;           /**< NID_BG */
+    uint8_t outcome;          /**< enum etcs_group_outcome */
+    uint8_t direction;        /**< in which it was passed: enum etcs_direction */
+    uint8_t reaction;         /**< what linking asks for because of it: enum etcs_reaction */
+    uint8_t has_announcement; /**< 1 where an announcement is meant, else 0 */
+    uint8_t announcement;     /**< its number in the list of its packet 5, from 0 */
+    uint8_t reserved[3];      /**< zeros */
+} etcs_unit_group;
+
+/** What becomes of the bytes of a balise, apart from the groups that they close (SUBSET-026, 3.4). */
+enum etcs_telegram_outcome {
+    ETCS_TELEGRAM_COUNTS = 1,       /**< they are a telegram that counts in its group */
+    ETCS_TELEGRAM_GROUP_CLOSED = 2, /**< it is ignored: its group has closed, and the train hasn't left it */
+    ETCS_TELEGRAM_REPEATED = 3,     /**< it is ignored: a telegram of the same balise has counted */
+    ETCS_TELEGRAM_REFUSED = 4       /**< they carry no telegram */
+};
+
+/** What an input would do as the next one. What isn't there is 0. */
+typedef struct {
+    etcs_unit_group groups[2]; /**< the groups that it closes, in their order */
+    uint8_t count;             /**< how many they are */
+    uint8_t telegram;          /**< of a telegram: enum etcs_telegram_outcome */
+    uint8_t fault;             /**< why the bytes carry none: enum etcs_fault */
+    uint8_t reserved;          /**< zero */
+} etcs_unit_preview_info;
+
 /** What came of a telegram that may be of an installed track (etcs_telegram_adapt). */
 enum etcs_adaptation {
     ETCS_ADAPTATION_NONE = 0,        /**< it has no packet 3 as a track of issue 2.3.0 sends it: hand it on as it is */
@@ -520,6 +588,10 @@ ETCS_UNIT_ASSERT(sizeof(etcs_unit_driver_info) == 208u && offsetof(etcs_unit_dri
                  && offsetof(etcs_unit_driver_info, mode) == 180u && offsetof(etcs_unit_driver_info, accepts) == 181u
                  && offsetof(etcs_unit_driver_info, accepts_identity) == 197u && offsetof(etcs_unit_driver_info, is_revalidated) == 200u
                  && offsetof(etcs_unit_driver_info, identity_status) == 201u && offsetof(etcs_unit_driver_info, has_left) == 207u);
+ETCS_UNIT_ASSERT(sizeof(etcs_unit_refusals_info) == 19u && offsetof(etcs_unit_refusals_info, identity) == 16u && offsetof(etcs_unit_refusals_info, train_data) == 18u);
+ETCS_UNIT_ASSERT(sizeof(etcs_unit_group) == 16u && offsetof(etcs_unit_group, group) == 4u && offsetof(etcs_unit_group, outcome) == 8u
+                 && offsetof(etcs_unit_group, announcement) == 12u);
+ETCS_UNIT_ASSERT(sizeof(etcs_unit_preview_info) == 36u && offsetof(etcs_unit_preview_info, count) == 32u && offsetof(etcs_unit_preview_info, fault) == 34u);
 ETCS_UNIT_ASSERT(sizeof(etcs_adapted) == 16u && offsetof(etcs_adapted, len) == 4u && offsetof(etcs_adapted, start) == 8u && offsetof(etcs_adapted, bits) == 12u);
 ETCS_UNIT_ASSERT(sizeof(etcs_value_dropped) == 16u && offsetof(etcs_value_dropped, variable) == 8u && offsetof(etcs_value_dropped, bits) == 12u);
 ETCS_UNIT_ASSERT(sizeof(etcs_packet_unused) == 24u && offsetof(etcs_packet_unused, bits) == 8u && offsetof(etcs_packet_unused, number) == 16u
@@ -546,6 +618,9 @@ uint32_t etcs_unit_release_(etcs_unit *unit, etcs_unit_output *outputs, uint64_t
 uint32_t etcs_unit_state_(etcs_unit *unit, etcs_unit_state_info *state);
 uint32_t etcs_unit_why_(etcs_unit *unit, etcs_unit_why_info *why);
 uint32_t etcs_unit_driver_(etcs_unit *unit, etcs_unit_driver_info *driver);
+uint32_t etcs_unit_refusals_(etcs_unit *unit, etcs_unit_refusals_info *refusals);
+uint32_t etcs_unit_preview_telegram_(etcs_unit *unit, const uint8_t *bytes, uint64_t len, etcs_unit_preview_info *preview);
+uint32_t etcs_unit_preview_odometer_(etcs_unit *unit, int64_t movement_cm, uint32_t speed_m_per_h, etcs_unit_preview_info *preview);
 uint32_t etcs_unit_close_(etcs_unit *unit);
 uint32_t etcs_unit_format_request_(uint32_t slots, uint32_t index, etcs_unit_request_info *request, uint8_t *bytes, uint64_t room);
 uint32_t etcs_telegram_adapt_(const uint8_t *bytes, uint64_t len, uint8_t *out, uint64_t room, etcs_adapted *told);
@@ -654,6 +729,36 @@ static inline const char *etcs_action_name(uint32_t number) {
 /** Returns the name of a number of enum etcs_datum; "unknown" for other numbers. */
 static inline const char *etcs_datum_name(uint32_t number) {
     static const char *const names[] = {"unknown", "valid", "invalid"};
+    return etcs_name_(names, (uint32_t)(sizeof names / sizeof names[0]), number);
+}
+
+/** Returns the name of a number of enum etcs_refusal; "unknown" for other numbers. */
+static inline const char *etcs_refusal_name(uint32_t number) {
+    static const char *const names[] = {
+        "none", "other_mode", "not_at_standstill", "too_fast", "nothing_to_confirm", "identity_not_valid",
+        "level_not_valid", "trip_outstanding", "train_data_not_valid", "no_trip", "not_requested"
+    };
+    return etcs_name_(names, (uint32_t)(sizeof names / sizeof names[0]), number);
+}
+
+/** Returns the name of a number of enum etcs_group_outcome; "unknown" for other numbers. */
+static inline const char *etcs_group_outcome_name(uint32_t number) {
+    static const char *const names[] = {
+        NULL, "announced", "not_linked", "linking_unused", "not_announced", "wrong_way", "too_early", "balise_missing",
+        "counters_differ", "telegrams_differ"
+    };
+    return etcs_name_(names, (uint32_t)(sizeof names / sizeof names[0]), number);
+}
+
+/** Returns the name of a number of enum etcs_reaction; "unknown" for other numbers. */
+static inline const char *etcs_reaction_name(uint32_t number) {
+    static const char *const names[] = {"trip", "service", "none"};
+    return etcs_name_(names, (uint32_t)(sizeof names / sizeof names[0]), number);
+}
+
+/** Returns the name of a number of enum etcs_telegram_outcome; "unknown" for other numbers. */
+static inline const char *etcs_telegram_outcome_name(uint32_t number) {
+    static const char *const names[] = {NULL, "counts", "group_closed", "repeated", "refused"};
     return etcs_name_(names, (uint32_t)(sizeof names / sizeof names[0]), number);
 }
 
@@ -953,6 +1058,29 @@ static inline uint32_t etcs_unit_why(etcs_unit *unit, etcs_unit_why_info *why) {
  * released; `driver` is written only with OK. */
 static inline uint32_t etcs_unit_driver(etcs_unit *unit, etcs_unit_driver_info *driver) {
     return ((unit != NULL) && (driver != NULL)) ? etcs_unit_driver_(unit, driver) : (uint32_t)ETCS_UNIT_NULL_POINTER;
+}
+
+/** Reports why the unit wouldn't accept each action of the driver as its next input, after all inputs that were taken. Call it
+ * before an action is handed in: the action has an effect exactly where its reason is ETCS_REFUSAL_NONE. It takes no memory
+ * and changes nothing. What it reports may rest on inputs that aren't released yet. Returns OK, or NOT_OPEN; then
+ * `refusals` isn't written. */
+static inline uint32_t etcs_unit_refusals(etcs_unit *unit, etcs_unit_refusals_info *refusals) {
+    return ((unit != NULL) && (refusals != NULL)) ? etcs_unit_refusals_(unit, refusals) : (uint32_t)ETCS_UNIT_NULL_POINTER;
+}
+
+/** Reports what becomes of the bytes that a balise sent, and of the groups that they close, where they are the next input. Call
+ * it before etcs_unit_telegram, and keep what it reports until the release of that input: until then it isn't on the medium.
+ * It changes nothing, and takes some 95 kB of stack. Where two groups close it takes memory for a copy of what is known of the track, more than
+ * etcs_memory.h counts. Returns OK, NOT_OPEN, OUT_OF_RANGE as etcs_unit_telegram, or NO_MEMORY where that memory is refused;
+ * `preview` is written only with OK. */
+static inline uint32_t etcs_unit_preview_telegram(etcs_unit *unit, const uint8_t *bytes, size_t len, etcs_unit_preview_info *preview) {
+    return ((unit != NULL) && (bytes != NULL) && (preview != NULL)) ? etcs_unit_preview_telegram_(unit, bytes, len, preview) : (uint32_t)ETCS_UNIT_NULL_POINTER;
+}
+
+/** Reports what becomes of the group that a reading of the odometer closes, where it is the next input. Call it before
+ * etcs_unit_odometer; for the rest it is as etcs_unit_preview_telegram, but that it takes no memory. */
+static inline uint32_t etcs_unit_preview_odometer(etcs_unit *unit, int64_t movement_cm, uint32_t speed_m_per_h, etcs_unit_preview_info *preview) {
+    return ((unit != NULL) && (preview != NULL)) ? etcs_unit_preview_odometer_(unit, movement_cm, speed_m_per_h, preview) : (uint32_t)ETCS_UNIT_NULL_POINTER;
 }
 
 /** Closes the unit, or abandons its power-up, and gives its memory back. Call it at the end, and after a failure before

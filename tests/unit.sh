@@ -127,13 +127,13 @@ build() {
 built=0
 link=("$archive")
 "$python" "$top/tests/unit/layout.py" --program >"$made/places.c" || fails "layout.py prints no program"
-for name in layout misuse sectors media files kept two life reading starts listing again explained driver_info telegrams guard executive odometer rtos; do
+for name in layout misuse sectors media files kept two life reading starts listing again explained driver_info preview telegrams guard executive odometer rtos; do
     source=$top/tests/unit/$name.c
     [ "$name" != layout ] || source=$made/places.c
     for compiler in "${compilers[@]}"; do build "$name.$compiler" "$source" "$compiler" -x c -std=c99 -O2; done
     build "$name.cpp" "$source" g++ -x c++ -std=c++17 -O2 -Wno-missing-field-initializers
 done
-for name in misuse sectors media files kept two life reading starts listing again explained driver_info telegrams guard executive odometer rtos; do
+for name in misuse sectors media files kept two life reading starts listing again explained driver_info preview telegrams guard executive odometer rtos; do
     build "$name.checked" "$top/tests/unit/$name.c" gcc -x c -std=c99 -O1 "${sanitizers[@]}"
 done
 for name in brake flash why; do
@@ -252,6 +252,10 @@ gcc -std=gnu11 -O2 -fPIC -shared "$top/tests/hostile/refuse.c" -o "$made/refuse.
 
 "$python" "$top/tests/unit/driver_info.py" "$made"/driver_info.gcc "$made"/driver_info.checked "$made"/driver_info.cpp || status=1
 
+# ---- what the next input would do: compared with the plain program
+
+"$python" "$top/tests/unit/preview.py" "$made"/preview.gcc "$made"/preview.checked "$made"/preview.cpp || status=1
+
 # ---- a life longer than the ring, whose blocks are kept
 
 "$python" "$top/tests/unit/kept.py" "$lab" "$made"/kept.gcc "$made"/kept.checked "$made"/kept.cpp || status=1
@@ -309,8 +313,8 @@ for program in "$made"/refused.*; do "$python" "$top/tests/unit/refused_lives.py
 
 # ---- the package in Python, and the pages
 
-(cd "$top/python" && "$python" -m unittest -q tests.test_unit tests.test_guard) >"$made/said" 2>&1 && grep -q '^Ran 30 tests' "$made/said" && ! grep -q skipped "$made/said" ||
-    { cat "$made/said"; fails "python/tests/test_{unit,guard}.py: failures, or other than 30 tests"; }
+(cd "$top/python" && "$python" -m unittest -q tests.test_unit tests.test_guard) >"$made/said" 2>&1 && grep -q '^Ran 31 tests' "$made/said" && ! grep -q skipped "$made/said" ||
+    { cat "$made/said"; fails "python/tests/test_{unit,guard}.py: failures, or other than 31 tests"; }
 "$python" "$top/tests/unit/integration.py" || status=1
 ETCS_LAB=$lab ETCS_UNIT_ARCHIVE=$raw ETCS_C_ARCHIVE=$raw_telegrams "$python" "$top/tests/documents.py" start/c howto/c-loop howto/c-flash \
     howto/c-static-memory howto/c-display howto/c-guard howto/c-installed-tracks howto/c-journal howto/cpp howto/python howto/rust || status=1

@@ -31,13 +31,15 @@ from .locks import lock
 from .program import TOP
 from .units import _header
 from .units._header import (ABI, BUILD_INFO_BYTES, OUTPUTS, REQUEST_BYTES, SECTOR, TELEGRAM_BYTES, VERSION_BYTES, Acknowledgement,
-                            Action, Adaptation, Brake, BrakeCause, Cold, Datum, Direction, DroppedVariable, Indication, Kind, Level,
-                            LimitCause, Mode, Proof, RequestKind, SlotState, Status, UnusedReason)
+                            Action, Adaptation, Brake, BrakeCause, Cold, Datum, Direction, DroppedVariable, Fault, GroupOutcome,
+                            Indication, Kind, Level, LimitCause, Mode, Proof, Reaction, Refusal, RequestKind, SlotState, Status,
+                            TelegramOutcome, UnusedReason)
 
 __all__ = ["ABI", "OUTPUTS", "REQUEST_BYTES", "SECTOR", "VERSION_BYTES", "Acknowledgement", "Action", "Brake",
-           "BrakeCause", "Cold", "Datum", "Facts", "FileMedium", "Indication", "Kept", "Kind", "Level", "LimitCause", "Medium",
-           "MemoryMedium", "Mode", "Output", "OverrideLeft", "Proof", "Record", "Refused", "Slot", "SlotState",
-           "State", "Status", "Target", "TrainData", "Unit", "UnitDriver", "UnitWhy", "Waiting", "Writable", "build_info",
+           "BrakeCause", "ClosedGroup", "Cold", "Datum", "Facts", "Fault", "FileMedium", "GroupOutcome", "Indication", "Kept", "Kind",
+           "Level", "LimitCause", "Medium", "MemoryMedium", "Mode", "Output", "OverrideLeft", "Preview", "Proof", "Reaction", "Record",
+           "Refusal", "Refused", "Slot", "SlotState", "State", "Status", "Target", "TelegramOutcome", "TrainData", "Unit", "UnitDriver",
+           "UnitRefusals", "UnitWhy", "Waiting", "Writable", "build_info",
            "build_proof", "decode", "facts", "first_request", "format_medium", "journal", "library", "records", "slots",
            "version"]
 
@@ -166,6 +168,39 @@ class UnitDriver:
     gave_level: bool
     gave_train: bool
     has_left: bool
+
+
+@dataclass(frozen=True, slots=True)
+class UnitRefusals:
+    """Why each action of the driver wouldn't be accepted as the next input; NONE if it would. An entry has one reason, whatever its
+    value."""
+
+    actions: dict[Action, Refusal]
+    identity: Refusal
+    running_number: Refusal
+    train_data: Refusal
+
+
+@dataclass(frozen=True, slots=True)
+class ClosedGroup:
+    """A balise group that an input closes. `announcement` is the number of the announcement that is meant, in the list of its packet
+    5."""
+
+    country: int
+    group: int
+    outcome: GroupOutcome
+    direction: Direction
+    announcement: int | None
+    reaction: Reaction
+
+
+@dataclass(frozen=True, slots=True)
+class Preview:
+    """What an input would do as the next one: the groups that it closes, what becomes of a telegram, and why bytes carry none."""
+
+    groups: tuple[ClosedGroup, ...]
+    telegram: TelegramOutcome | None
+    fault: Fault | None
 
 
 @dataclass(frozen=True, slots=True)
@@ -441,6 +476,17 @@ def _unit_driver(info: _header.etcs_unit_driver_info) -> UnitDriver:
                       info.accepts_identity != 0, info.accepts_running_number != 0, info.accepts_train_data != 0,
                       info.is_revalidated != 0, Datum(info.identity_status), Datum(info.running_number_status), Datum(info.train_status),
                       info.gave_identity != 0, info.gave_level != 0, info.gave_train != 0, info.has_left != 0)
+
+
+def _unit_refusals(info: _header.etcs_unit_refusals_info) -> UnitRefusals:
+    return UnitRefusals({action: Refusal(info.actions[action]) for action in Action}, Refusal(info.identity),
+                        Refusal(info.running_number), Refusal(info.train_data))
+
+
+def _preview(info: _header.etcs_unit_preview_info) -> Preview:
+    groups = (ClosedGroup(one.country, one.group, GroupOutcome(one.outcome), Direction(one.direction),
+                          one.announcement if one.has_announcement else None, Reaction(one.reaction)) for one in info.groups[:info.count])
+    return Preview(tuple(groups), TelegramOutcome(info.telegram) if info.telegram else None, Fault(info.fault) if info.fault else None)
 
 
 def _carry_out(medium: Writable, request: _header.etcs_unit_request_info, buffer: ctypes.Array[ctypes.c_char]) -> None:
@@ -728,3 +774,22 @@ class Unit:
         info = _header.etcs_unit_driver_info()
         self._call("driver", ctypes.byref(info))
         return _unit_driver(info)
+
+    def refusals(self) -> UnitRefusals:
+        """Why each action of the driver wouldn't be accepted as the next input, after all inputs that were taken, released or not."""
+        info = _header.etcs_unit_refusals_info()
+        self._call("refusals", ctypes.byref(info))
+        return _unit_refusals(info)
+
+    def preview_telegram(self, data: bytes) -> Preview:
+        """What becomes of the bytes of a balise, and of the groups that they close, if they are the next input. Show it only after
+        the release of that input."""
+        info = _header.etcs_unit_preview_info()
+        self._call("preview_telegram", data, len(data), ctypes.byref(info))
+        return _preview(info)
+
+    def preview_odometer(self, movement_cm: int, speed_m_per_h: int) -> Preview:
+        """What becomes of the group that a reading closes, if it is the next input, as for `preview_telegram`."""
+        info = _header.etcs_unit_preview_info()
+        self._call("preview_odometer", _number(movement_cm, 64, signed=True), _number(speed_m_per_h, 32), ctypes.byref(info))
+        return _preview(info)

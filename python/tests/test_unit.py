@@ -16,8 +16,9 @@ from unittest import mock
 import gaknifur
 from gaknifur import lives, unit as units
 from gaknifur.lives import BrakeCause, Datum, KeptField, LimitCause, RecordField, TripCause, Verdict
-from gaknifur.unit import (Acknowledgement, Action, Brake, Cold, FileMedium, Indication, Kept, Kind, Level, MemoryMedium, Mode,
-                           Output, Record, Refused, SlotState, Status, TrainData, Unit, UnitDriver, UnitWhy, Waiting)
+from gaknifur.unit import (Acknowledgement, Action, Brake, ClosedGroup, Cold, FileMedium, GroupOutcome, Indication, Kept, Kind, Level,
+                           MemoryMedium, Mode, Output, Preview, Reaction, Record, Refusal, Refused, SlotState, Status, TelegramOutcome,
+                           TrainData, Unit, UnitDriver, UnitWhy, Waiting)
 from gaknifur.units._header import Adaptation, Direction, DroppedVariable, Fault, Proof, RequestKind, Source, StatusKind, UnusedReason
 
 INCLUDE = Path(__file__).resolve().parents[2] / "include"
@@ -33,8 +34,8 @@ class Names(unittest.TestCase):
     def test_enums(self) -> None:
         enums: list[type[enum.IntEnum | enum.IntFlag]] = [
             Fault, Proof, Status, StatusKind, Source, Cold, Action, Mode, Level, Brake, Indication, RequestKind, BrakeCause, LimitCause,
-            Acknowledgement, Datum, Adaptation, DroppedVariable, Direction, UnusedReason, SlotState, Kind, Verdict, RecordField, KeptField,
-            TripCause]
+            Acknowledgement, Datum, Refusal, GroupOutcome, Reaction, TelegramOutcome, Adaptation, DroppedVariable, Direction, UnusedReason,
+            SlotState, Kind, Verdict, RecordField, KeptField, TripCause]
         text = "".join((INCLUDE / name).read_text() for name in ("etcs.h", "etcs_unit.h", "etcs_image.h"))
         bodies = re.findall(r"^enum \w+ \{(.*?)\};", text, re.DOTALL | re.MULTILINE)
         for one, body in zip(enums, bodies, strict=True):
@@ -478,6 +479,35 @@ class Calls(OverTheLibrary):
             self.assertEqual((driver.identity, driver.running_number, driver.train_data), (Datum.INVALID, Datum.UNKNOWN, Datum.INVALID))
             self.assertEqual((driver.gave_identity, driver.gave_level, driver.gave_train, driver.has_left), (False, False, False, False))
             self.assertEqual((driver.accepts, driver.is_revalidated), (levels | confirms, False))
+
+    def test_what_an_input_does(self) -> None:
+        """By hand: why actions aren't accepted in Stand By, and what becomes of a group of two balises, of a repeat and of what is no
+        telegram."""
+        first, second = bytes.fromhex("90027F802003506023A100014002C27F80"), bytes.fromhex("90127F802003506023A12000000502FF80")  # of group 6
+        with Unit(MemoryMedium.formatted(4)) as unit:
+            refusals = unit.refusals()
+            self.assertEqual({refusals.identity, refusals.running_number, refusals.train_data}, {Refusal.NONE})
+            self.assertEqual([refusals.actions[one] for one in (Action.CHOOSE_LEVEL_1, Action.CONFIRM_LEVEL, Action.START, Action.OVERRIDE,
+                                                                Action.ACKNOWLEDGE_TRIP, Action.ACKNOWLEDGE_ON_SIGHT)],
+                             [Refusal.NONE, Refusal.NOTHING_TO_CONFIRM, Refusal.IDENTITY_NOT_VALID, Refusal.OTHER_MODE, Refusal.NO_TRIP,
+                              Refusal.NOT_REQUESTED])
+            unit.odometer(10, 300)
+            self.assertEqual(unit.refusals().train_data, Refusal.NOT_AT_STANDSTILL)
+            self.assertEqual(unit.preview_telegram(first), Preview((), TelegramOutcome.COUNTS, None))
+            unit.telegram(first)
+            self.assertEqual(unit.preview_telegram(first), Preview((), TelegramOutcome.REPEATED, None))
+            self.assertEqual(unit.preview_telegram(b"\x90"), Preview((), TelegramOutcome.REFUSED, Fault.TRUNCATED))
+            whole = ClosedGroup(1, 6, GroupOutcome.LINKING_UNUSED, Direction.NOMINAL, None, Reaction.NONE)
+            self.assertEqual(unit.preview_telegram(second), Preview((whole,), TelegramOutcome.COUNTS, None))
+            left = ClosedGroup(1, 6, GroupOutcome.BALISE_MISSING, Direction.NOT_KNOWN, None, Reaction.NONE)
+            self.assertEqual(unit.preview_odometer(1_300, 300), Preview((), None, None))
+            self.assertEqual(unit.preview_odometer(1_301, 300), Preview((left,), None, None))
+            unit.telegram(second)
+            self.assertEqual(unit.preview_telegram(second), Preview((), TelegramOutcome.GROUP_CLOSED, None))
+            with self.refused(Status.OUT_OF_RANGE):
+                unit.preview_odometer(1 << 70, 0)
+            with self.refused(Status.OUT_OF_RANGE):
+                unit.preview_telegram(b"")
 
     def test_the_version(self) -> None:
         changes = HEADER.parents[1] / "CHANGELOG.md"

@@ -8,30 +8,45 @@ KINDS = ("on-sight", "shunting", "level-0")
 ACTIONS = (*ENTERED, "confirm", "start", "choose-shunting", "leave-shunting", "override", "acknowledge", "close-desk")
 
 
-def accepts(life, word, value):
-    """By the state before the event. Standstill is the speed of the last reading alone."""
-    mode, stands = life.mode(), life.speed() == 0
-    valid = {name for name in ("identity", "train-data", "level") if life.item(name).status == VALID}
+def conditions(life, word, value):
+    """What an action asks for, by the state before the event, each with the reason where it fails. Standstill is the speed of the
+    last reading alone."""
+    def standing(*modes):
+        return [(life.mode() in modes, "other_mode"), (life.speed() == 0, "not_at_standstill")]
+
+    def valid(item):
+        return life.item(item).status == VALID, f"{item.replace('-', '_')}_not_valid"
+
+    leaving = [valid("identity"), valid("level"), (not life.is_tripped(), "trip_outstanding")]
     if word in ENTERED:
-        return mode == "SB" and stands
+        return standing("SB")
     if word == "confirm":
-        return mode == "SB" and stands and life.item(value).status != UNKNOWN
+        return [*standing("SB"), (life.item(value).status != UNKNOWN, "nothing_to_confirm")]
     if word == "start":
-        return mode in ("SB", "PT") and stands and len(valid) == 3 and not life.is_tripped()
+        return [*standing("SB", "PT"), *leaving, valid("train-data")]
     if word == "choose-shunting":
-        return (mode in ("SB", "FS", "OS", "SR", "UN", "PT") and stands and {"identity", "level"} <= valid
-                and not life.is_tripped())
+        return [*standing("SB", "FS", "OS", "SR", "UN", "PT"), *leaving]
     if word == "leave-shunting":
-        return mode == "SH" and stands
+        return standing("SH")
     if word == "override":
-        return mode in ("FS", "OS", "SR", "PT") and life.speed() <= life.national.in_force.values.override_allowed
+        return [(life.mode() in ("FS", "OS", "SR", "PT"), "other_mode"),
+                (life.speed() <= life.national.in_force.values.override_allowed, "too_fast")]
     if word == "acknowledge":
         if value == "trip":
-            return mode in ("TR", "SB") and stands and life.is_tripped()
-        return life.acknowledgement(value).waits()
+            return [*standing("TR", "SB"), (life.is_tripped(), "no_trip")]
+        return [(life.acknowledgement(value).waits(), "not_requested")]
     if word == "close-desk":
-        return mode in ("FS", "OS", "SR", "SH", "UN", "PT") and stands
+        return standing("FS", "OS", "SR", "SH", "UN", "PT")
     raise ValueError(word)
+
+
+def refusal(life, word, value):
+    """Why an action isn't accepted: the first condition that fails; None where it is."""
+    return next((why for holds, why in conditions(life, word, value) if not holds), None)
+
+
+def accepts(life, word, value):
+    return refusal(life, word, value) is None
 
 
 def entered(word, value):

@@ -109,6 +109,14 @@ class Assembler:
         """A group ends after more than 1,300 cm of path without a telegram of it: the groups that this closes."""
         return [self.end()] if self.current and not self.current.is_near(path) else []
 
+    def outcome(self, reading):
+        """Whether a reading counts in its group."""
+        group, path = reading.telegram.group, reading.sums.path
+        if self.last and self.last.first.group == group and self.last.is_near(path):
+            return "group_closed"
+        same = self.current and self.current.first.group == group and self.current.is_near(path)
+        return "repeated" if same and reading.telegram.place in self.current.places() else "counts"
+
     def take(self, reading):
         """The groups that a reading closes, the one that it ends first."""
         group, path, closed = reading.telegram.group, reading.sums.path, []

@@ -6,12 +6,43 @@ static etcs_unit_request_info request;
 static etcs_unit_state_info state;
 static etcs_unit_why_info why;
 static etcs_unit_driver_info driver;
+static etcs_unit_refusals_info refusals;
+static etcs_unit_preview_info preview;
 static uint8_t bytes[ETCS_UNIT_REQUEST_BYTES];
 static uint32_t count;
 static const uint8_t telegram[ETCS_TELEGRAM_BYTES + 1] = {0x90, 0x00, 0x7F, 0x80, 0x20, 0x01, 0x7F, 0xC0};
 static const uint8_t letters[17] = {'A', ' ', '~', 'B', 'C', 'D', 'E', 'F', 'G', 'H', 'I', 'J', 'K', 'L', 'M', 'N', 'O'};
 /* 200 m, 160 km/h, 0.7 m/s^2, 1 s, category 15 */
 static const etcs_train_data train = {20000, 160000, 70, 1000, 15};
+
+/* Why actions aren't accepted in Stand By at standstill, by hand: nothing is valid, no trip is outstanding and no acknowledgement asked for. */
+static const uint8_t refused_in_stand_by[ETCS_ACTIONS] = {
+    0, 0, 0, 0, 0, 0, 0, /* a level is chosen, an item confirmed */
+    ETCS_REFUSAL_IDENTITY_NOT_VALID, ETCS_REFUSAL_IDENTITY_NOT_VALID, /* start, shunting */
+    ETCS_REFUSAL_OTHER_MODE, ETCS_REFUSAL_OTHER_MODE, /* shunting is left, override */
+    ETCS_REFUSAL_NO_TRIP, ETCS_REFUSAL_NOT_REQUESTED, ETCS_REFUSAL_NOT_REQUESTED, ETCS_REFUSAL_NOT_REQUESTED, /* acknowledgements */
+    ETCS_REFUSAL_OTHER_MODE /* the desk is closed */
+};
+
+/* What inputs would do, by hand: the telegram is of the only balise of group 2 of country 1, which is linked; nothing is announced. */
+static void previews(etcs_unit *unit) {
+    is("preview of a telegram", etcs_unit_preview_telegram(unit, telegram, 8, &preview), ETCS_UNIT_OK);
+    is("it counts", preview.telegram, ETCS_TELEGRAM_COUNTS);
+    is("it has no fault", preview.fault, ETCS_OK);
+    is("its group closes", preview.count, 1);
+    is("its country", preview.groups[0].country, 1);
+    is("its group", preview.groups[0].group, 2);
+    is("its outcome", preview.groups[0].outcome, ETCS_GROUP_LINKING_UNUSED);
+    is("its direction", preview.groups[0].direction, ETCS_DIRECTION_NOT_KNOWN);
+    is("nothing is asked for", preview.groups[0].reaction, ETCS_REACTION_NONE);
+    is("no announcement", preview.groups[0].has_announcement, 0);
+    is("preview of a byte", etcs_unit_preview_telegram(unit, telegram, 1, &preview), ETCS_UNIT_OK);
+    is("it is no telegram", preview.telegram, ETCS_TELEGRAM_REFUSED);
+    is("its fault", preview.fault, ETCS_TRUNCATED);
+    is("no group closes", preview.count, 0);
+    is("preview of a reading", etcs_unit_preview_odometer(unit, 8000, 300, &preview), ETCS_UNIT_OK);
+    is("no telegram and no group", (uint64_t)preview.telegram | preview.count, 0);
+}
 
 static void null_pointers(medium *on) {
     etcs_unit unit = {0};
@@ -48,6 +79,13 @@ static void null_pointers(medium *on) {
     is("why, no output", etcs_unit_why(&unit, NULL), wanted);
     is("driver, no unit", etcs_unit_driver(NULL, &driver), wanted);
     is("driver, no output", etcs_unit_driver(&unit, NULL), wanted);
+    is("refusals, no unit", etcs_unit_refusals(NULL, &refusals), wanted);
+    is("refusals, no output", etcs_unit_refusals(&unit, NULL), wanted);
+    is("preview of a telegram, no unit", etcs_unit_preview_telegram(NULL, telegram, 8, &preview), wanted);
+    is("preview of a telegram, no bytes", etcs_unit_preview_telegram(&unit, NULL, 8, &preview), wanted);
+    is("preview of a telegram, no output", etcs_unit_preview_telegram(&unit, telegram, 8, NULL), wanted);
+    is("preview of a reading, no unit", etcs_unit_preview_odometer(NULL, 0, 0, &preview), wanted);
+    is("preview of a reading, no output", etcs_unit_preview_odometer(&unit, 0, 0, NULL), wanted);
     is("close, no unit", etcs_unit_close(NULL), wanted);
     is("format, no output", etcs_unit_format_request(4, 0, NULL, bytes, 512), wanted);
     is("format, no bytes", etcs_unit_format_request(4, 0, &request, NULL, 512), wanted);
@@ -60,6 +98,7 @@ static void untouched(const char *what) {
     is(what, (uint64_t)memcmp(outputs, other, sizeof outputs) | (uint64_t)memcmp(&count, other, sizeof count) |
        (uint64_t)memcmp(&request, other, sizeof request) | (uint64_t)memcmp(&state, other, sizeof state) |
        (uint64_t)memcmp(&why, other, sizeof why) | (uint64_t)memcmp(&driver, other, sizeof driver) |
+       (uint64_t)memcmp(&refusals, other, sizeof refusals) | (uint64_t)memcmp(&preview, other, sizeof preview) |
        (uint64_t)memcmp(bytes, other, sizeof bytes), 0);
 }
 
@@ -70,6 +109,8 @@ static void touch(void) {
     memset(&state, 0xAA, sizeof state);
     memset(&why, 0xAA, sizeof why);
     memset(&driver, 0xAA, sizeof driver);
+    memset(&refusals, 0xAA, sizeof refusals);
+    memset(&preview, 0xAA, sizeof preview);
     memset(bytes, 0xAA, sizeof bytes);
 }
 
@@ -108,6 +149,10 @@ static void takes_nothing(etcs_unit *unit) {
     is("state, not open", etcs_unit_state(unit, &state), wanted);
     is("why, not open", etcs_unit_why(unit, &why), wanted);
     is("driver, not open", etcs_unit_driver(unit, &driver), wanted);
+    is("refusals, not open", etcs_unit_refusals(unit, &refusals), wanted);
+    is("preview of a telegram, not open", etcs_unit_preview_telegram(unit, telegram, 8, &preview), wanted);
+    is("preview of no telegram, not open", etcs_unit_preview_telegram(unit, telegram, 0, &preview), wanted);
+    is("preview of a reading, not open", etcs_unit_preview_odometer(unit, 0, 0, &preview), wanted);
     untouched("a call on a unit that isn't open writes nothing");
 }
 
@@ -332,6 +377,14 @@ static void limits(medium *on) {
     etcs_unit unit = {0};
     is("power-up", powered_up(on, &unit, 0), ETCS_UNIT_OK);
     const uint32_t wanted = ETCS_UNIT_OUT_OF_RANGE;
+    touch();
+    is("a preview of no byte", etcs_unit_preview_telegram(&unit, telegram, 0, &preview), wanted);
+    is("a preview of 105 bytes", etcs_unit_preview_telegram(&unit, telegram, 105, &preview), wanted);
+    is("a preview of 1,048,576 bytes", etcs_unit_preview_telegram(&unit, many, 1 << 20, &preview), wanted);
+    is("a preview of 10,001 cm", etcs_unit_preview_odometer(&unit, 10001, 1, &preview), wanted);
+    is("a preview of -10,001 cm", etcs_unit_preview_odometer(&unit, -10001, 1, &preview), wanted);
+    is("a preview of 600,001 m/h", etcs_unit_preview_odometer(&unit, 0, 600001, &preview), wanted);
+    untouched("a preview out of range writes nothing");
     is("a telegram of no byte", etcs_unit_telegram(&unit, telegram, 0), wanted);
     is("a telegram of 105 bytes", etcs_unit_telegram(&unit, telegram, 105), wanted);
     is("a telegram of 1,048,576 bytes", etcs_unit_telegram(&unit, many, 1 << 20), wanted);
@@ -490,6 +543,11 @@ static void relaying(medium *on) {
     for (uint32_t i = 0; i < ETCS_ACTIONS; i++)
         is("an action that is accepted", driver.accepts[i], i >= ETCS_CHOOSE_LEVEL_0 && i <= ETCS_CONFIRM_LEVEL);
     is("why, again", etcs_unit_why(&unit, &why), ETCS_UNIT_OK);
+    is("refusals", etcs_unit_refusals(&unit, &refusals), ETCS_UNIT_OK);
+    for (uint32_t i = 1; i < ETCS_ACTIONS; i++)
+        is("why an action isn't accepted", refusals.actions[i], refused_in_stand_by[i]);
+    is("an entry is", (uint64_t)refusals.identity | refusals.running_number | refusals.train_data, ETCS_REFUSAL_NONE);
+    previews(&unit);
     /* -30 cm and 8,000 cm: the twentieth part of a path of 8,030 cm is 401.5 */
     is("backward", etcs_unit_odometer(&unit, -30, 300), ETCS_UNIT_OK);
     is("forward", etcs_unit_odometer(&unit, 8000, 300), ETCS_UNIT_OK);

@@ -43,11 +43,12 @@ ENUMS = {
     "fault": ({"OK": "OK"}, ("A fault", "name"), ("OK",)),
     "unused_reason": ({"IN_MODE": "not_in_mode"}, None, ()),
     "direction": ({}, ("Balise group", "direction"), ("not_known",)),
+    "group_outcome": ({}, ("Balise group", "outcome"), ()), "reaction": ({}, None, ()), "telegram_outcome": ({}, None, ()), "refusal": ({}, None, ()),
     "acknowledgement": ({}, None, ()), "action": ({}, None, ()), "status_kind": ({}, None, ()), "request_kind": ({}, None, ()), "adaptation": ({}, None, ()), "proof": ({}, None, ()),
     "guard_policy": ({}, None, ()), "demanded": ({}, None, ()), "finding": ({}, None, ()), "sureness": ({}, None, ()),
 }
 FIELDS = ("record_field", "kept_field")
-LEAST = 29
+LEAST = 33
 
 
 def words_of(page, section, member):

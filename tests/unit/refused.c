@@ -4,8 +4,8 @@
  *     refused IMAGE    reads the life from standard input: `open COLD`, an input (inputs.h), `flush` or `close` on each line
  *
  * A call that is refused memory says so and changes nothing that is reported; it is made once more. All else is as in a run without a refusal:
- * each status, request, byte and output, and what the medium holds in the end. Only `open` and the inputs ask for memory, and after the
- * life all of it is given back. Where the life meets no refusal the run fails. Built with --wrap for malloc, realloc and free; or, over memory of
+ * each status, request, byte and output, and what the medium holds in the end. Only `open`, the inputs and the preview of a telegram, which is
+ * asked for before it is handed in, ask for memory, and after the life all of it is given back. Where the life meets no refusal the run fails. Built with --wrap for malloc, realloc and free; or, over memory of
  * the maker's own (etcs_memory.h), with OVER_PIECES and --wrap for rattle_alloc, rattle_realloc and rattle_dealloc, by which the proved
  * library asks. */
 #ifdef OVER_PIECES
@@ -113,7 +113,7 @@ static unsigned many;
 static uint8_t image[MOST_BYTES], bytes[MOST_BYTES];
 static medium on = {bytes, 0};
 static etcs_unit unit;
-static unsigned refused_open, refused_inputs;
+static unsigned refused_open, refused_inputs, refused_previews;
 
 /* Goes on with a digest of bytes (FNV-1a). */
 static void digest(uint64_t *to, const void *from, size_t len) {
@@ -125,12 +125,31 @@ static uint32_t tries(const char *line, int opens, uint32_t cold) {
     return opens ? etcs_unit_open(&unit, on.bytes, on.len, cold) : take(&unit, line);
 }
 
+/* Asks what a telegram would do. Where it is refused memory nothing is written. */
+static void previews(const char *line) {
+    char hex[512];
+    uint8_t sent[256], other[sizeof(etcs_unit_preview_info)];
+    etcs_unit_preview_info preview;
+    if (sscanf(line, "telegram %511s", hex) != 1)
+        return;
+    memset(&preview, 0xAA, sizeof preview);
+    memset(other, 0xAA, sizeof other);
+    is_refused = 0;
+    const uint32_t status = etcs_unit_preview_telegram(&unit, sent, bytes_of(hex, sent, sizeof sent), &preview);
+    is("preview", status, is_refused ? ETCS_UNIT_NO_MEMORY : ETCS_UNIT_OK);
+    if (is_refused) {
+        is("a preview that is refused memory writes nothing", (uint64_t)memcmp(&preview, other, sizeof other), 0);
+        refused_previews++;
+    }
+}
+
 /* Opens, or hands in an input. Where it is refused memory it is made once more. */
 static uint32_t asks(const char *line, int opens, uint32_t cold) {
     etcs_unit_state_info before, after;
     memset(&before, 0, sizeof before);
     memset(&after, 0, sizeof after);
     const uint32_t was = etcs_unit_state(&unit, &before);
+    previews(line);
     const long had = held;
     is_refused = 0;
     const uint32_t status = tries(line, opens, cold);
@@ -230,11 +249,11 @@ int main(int count, char **words) {
         is(lines[i], wanted[i].status, ETCS_UNIT_OK);
     const unsigned long all = asked;
     for (unsigned long at = 1; at <= all + 1; at++) {
-        const unsigned before = refused_open + refused_inputs;
+        const unsigned before = refused_open + refused_inputs + refused_previews;
         live(at, found);
         compare(found, wanted, left);
-        is("refusals of a run", refused_open + refused_inputs - before, at <= all);
+        is("refusals of a run", refused_open + refused_inputs + refused_previews - before, at <= all);
     }
-    printf("refused: %u power-ups, %u inputs\n", refused_open, refused_inputs);
+    printf("refused: %u power-ups, %u inputs, %u previews\n", refused_open, refused_inputs, refused_previews);
     return report("refused", 2 * many) || refused_open == 0 || refused_inputs == 0;
 }

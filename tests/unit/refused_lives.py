@@ -4,7 +4,8 @@ the events of rows of the kernel, which take memory in each of the lists that it
 
     tests/unit/refused_lives.py REFUSED    REFUSED is refused.c with the library
 
-The exit status is 1 where a life is answered otherwise than without a refusal, or where no power-up or no input of it was refused memory.
+The exit status is 1 where a life is answered otherwise than without a refusal, or where no power-up or no input of it was refused memory, or no preview
+of a telegram of all of them.
 """
 import re
 import subprocess
@@ -23,11 +24,14 @@ from kernel_words import ACKNOWLEDGED, COLD, CONFIRMED  # noqa: E402
 from kernel_words import ALONE as ACTIONS  # noqa: E402
 
 PENDING = 8
+OF_TWO = "90027F802003506023A100014002C27F80"  # the first balise of two, of group 6
 ENTRIES = ["enter-identity A", "choose-level 1", "enter-train-data 20000 160000 70 0 15", "start"]
 READINGS = ["move 9046 10000", "move 1 10000", "move 7268 10000", "move 1 10000"]
 NEW = {
     "staff responsible": ["open unknown", f"hear {RESTRICTION}", *ENTRIES, "flush", *READINGS, "flush", "close", "open not-moved", "confirm identity", "flush"],
     "full supervision": ["open unknown", f"hear {AUTHORITY}", *ENTRIES, "flush", "move 100 20000", "clock 5", "flush", "close", "open moved", "flush"],
+    "two groups that close at once": ["open unknown", f"hear {RESTRICTION}", *ENTRIES, "flush", "move 1500 3000", f"hear {OF_TWO}", f"hear {AUTHORITY}",
+                                      "flush"],
     "a life and an opening": ["open unknown", f"hear {RESTRICTION}", ENTRIES[0], "flush", *ENTRIES[1:], "flush", *READINGS, "flush", "close", "open unknown",
                               "flush"],
     "an authority after a second power-up": ["open unknown", f"hear {RESTRICTION}", *ENTRIES, *READINGS, "open not-moved", "confirm identity",
@@ -116,18 +120,19 @@ def image(prepare):
 
 
 def main(program):
-    failures, power_ups, inputs = Compared(), 0, 0
+    failures, power_ups, inputs, previews = Compared(), 0, 0, 0
     with tempfile.TemporaryDirectory() as folder:
         at = Path(folder) / "image"
         for name, prepare, life in lives():
             at.write_bytes(image(prepare))
             text = "".join(line + "\n" for line in lines_of(life))
             ran = subprocess.run([program, at], input=text, capture_output=True, text=True, timeout=120)
-            found = re.search(r"^refused: (\d+) power-ups, (\d+) inputs$", ran.stdout, re.M)
+            found = re.search(r"^refused: (\d+) power-ups, (\d+) inputs, (\d+) previews$", ran.stdout, re.M)
             failures.unless(ran.returncode == 0 and not ran.stderr and found, f"{name}: status {ran.returncode} {ran.stdout[:800]} {ran.stderr[:400]}")
             if found:
-                power_ups, inputs = power_ups + int(found[1]), inputs + int(found[2])
-    return failures.end(f"memory refused to the unit: {power_ups} power-ups and {inputs} inputs in {failures.count} lives")
+                power_ups, inputs, previews = power_ups + int(found[1]), inputs + int(found[2]), previews + int(found[3])
+    failures.unless(previews > 0, "no preview is refused memory")
+    return failures.end(f"memory refused to the unit: {power_ups} power-ups, {inputs} inputs and {previews} previews in {failures.count - 1} lives")
 
 
 if __name__ == "__main__":

@@ -2,10 +2,11 @@
 use c_numbers::abi_call;
 use std::alloc::Global;
 use unit_calls::{
-    EtcsOutput, EtcsRequest, EtcsState, EtcsTrainData, EtcsUnit, EtcsUnitDriver, EtcsUnitWhy,
-    action_call, clock_call, done_call, format_request_call, identity_call, odometer_call,
-    prepare_call, release_call, running_number_call, state_call, telegram_call, train_data_call,
-    unit_driver_call, unit_why_call, version_call,
+    EtcsOutput, EtcsPreview, EtcsRequest, EtcsState, EtcsTrainData, EtcsUnit, EtcsUnitDriver,
+    EtcsUnitRefusals, EtcsUnitWhy, action_call, clock_call, done_call, format_request_call,
+    identity_call, odometer_call, prepare_call, preview_odometer_call, preview_telegram_call,
+    release_call, running_number_call, state_call, telegram_call, train_data_call,
+    unit_driver_call, unit_refusals_call, unit_why_call, version_call,
 };
 
 /// Takes the bytes that a balise sent.
@@ -101,6 +102,35 @@ pub extern "C" fn etcs_unit_why_(unit: &mut EtcsUnit, why: &mut EtcsUnitWhy) -> 
 #[unsafe(no_mangle)]
 pub extern "C" fn etcs_unit_driver_(unit: &mut EtcsUnit, driver: &mut EtcsUnitDriver) -> u32 {
     unit_driver_call(unit, driver).number()
+}
+
+/// Reports why each action of the driver wouldn't be accepted as the next input.
+#[unsafe(no_mangle)]
+pub extern "C" fn etcs_unit_refusals_(unit: &mut EtcsUnit, refusals: &mut EtcsUnitRefusals) -> u32 {
+    unit_refusals_call(unit, refusals).number()
+}
+
+/// Reports what the bytes of a balise would do as the next input.
+#[unsafe(no_mangle)]
+pub extern "C" fn etcs_unit_preview_telegram_(
+    alloc: Global,
+    unit: &mut EtcsUnit,
+    bytes: &[u8],
+    preview: &mut EtcsPreview,
+) -> u32 {
+    preview_telegram_call(alloc, unit, bytes, preview).number()
+}
+
+/// Reports what a reading of the odometer would do as the next input.
+#[unsafe(no_mangle)]
+pub extern "C" fn etcs_unit_preview_odometer_(
+    alloc: Global,
+    unit: &mut EtcsUnit,
+    movement: i64,
+    speed: u32,
+    preview: &mut EtcsPreview,
+) -> u32 {
+    preview_odometer_call(alloc, unit, movement, speed, preview).number()
 }
 
 /// The number of this interface.

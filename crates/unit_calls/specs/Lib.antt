@@ -15,6 +15,8 @@ pub mod Openings
 pub mod Outputs
 pub mod Owned
 pub mod PowerUps
+pub mod Previews
+pub mod Refusals
 pub mod Requests
 pub mod Sectors
 pub mod Statuses

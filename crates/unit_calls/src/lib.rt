@@ -27,7 +27,10 @@ mod inputs;
 mod laws;
 mod opening;
 mod outputs;
+mod preview;
+mod previewing;
 mod raw;
+mod refusals;
 mod relaying;
 mod sectors;
 mod status;
@@ -47,6 +50,9 @@ pub use inputs::EtcsTrainData;
 pub use laws::{format_empties, handed_out_is_on_medium, on_medium_is_held, power_up_ends};
 pub use opening::{unit_begin_call, unit_close_call};
 pub use outputs::{EtcsOutput, EtcsState};
+pub use preview::{EtcsGroup, EtcsPreview};
+pub use previewing::{preview_odometer_call, preview_telegram_call, unit_refusals_call};
+pub use refusals::EtcsUnitRefusals;
 pub use relaying::{
     done_call, prepare_call, release_call, state_call, unit_fail_call, unit_request_call,
 };

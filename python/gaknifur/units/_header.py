@@ -224,6 +224,54 @@ class Datum(enum.IntEnum):
     INVALID = 2
 
 
+class Refusal(enum.IntEnum):
+    """Why an action of the driver isn't accepted: the first of its conditions that fails, in this order."""
+
+    NONE = 0
+    OTHER_MODE = 1
+    NOT_AT_STANDSTILL = 2
+    TOO_FAST = 3
+    NOTHING_TO_CONFIRM = 4
+    IDENTITY_NOT_VALID = 5
+    LEVEL_NOT_VALID = 6
+    TRIP_OUTSTANDING = 7
+    TRAIN_DATA_NOT_VALID = 8
+    NO_TRIP = 9
+    NOT_REQUESTED = 10
+
+
+class GroupOutcome(enum.IntEnum):
+    """What becomes of a balise group (SUBSET-026, 3.4.4 and 3.16.2). The first three are accepted: their packets are
+    used."""
+
+    ANNOUNCED = 1
+    NOT_LINKED = 2
+    LINKING_UNUSED = 3
+    NOT_ANNOUNCED = 4
+    WRONG_WAY = 5
+    TOO_EARLY = 6
+    BALISE_MISSING = 7
+    COUNTERS_DIFFER = 8
+    TELEGRAMS_DIFFER = 9
+
+
+class Reaction(enum.IntEnum):
+    """What linking asks for (Q_LINKREACTION)."""
+
+    TRIP = 0
+    SERVICE = 1
+    NONE = 2
+
+
+class TelegramOutcome(enum.IntEnum):
+    """What becomes of the bytes of a balise, apart from the groups that they close (SUBSET-026, 3.4)."""
+
+    COUNTS = 1
+    GROUP_CLOSED = 2
+    REPEATED = 3
+    REFUSED = 4
+
+
 class Adaptation(enum.IntEnum):
     """What came of a telegram that may be of an installed track (etcs_telegram_adapt)."""
 
@@ -446,6 +494,21 @@ class etcs_unit_driver_info(Structure):
                 ("has_left", c_uint8)]
 
 
+class etcs_unit_refusals_info(Structure):
+    _fields_ = [("actions", c_uint8 * 16), ("identity", c_uint8), ("running_number", c_uint8), ("train_data", c_uint8)]
+
+
+class etcs_unit_group(Structure):
+    _fields_ = [("country", c_uint32), ("group", c_uint32), ("outcome", c_uint8), ("direction", c_uint8),
+                ("reaction", c_uint8), ("has_announcement", c_uint8), ("announcement", c_uint8),
+                ("reserved", c_uint8 * 3)]
+
+
+class etcs_unit_preview_info(Structure):
+    _fields_ = [("groups", etcs_unit_group * 2), ("count", c_uint8), ("telegram", c_uint8), ("fault", c_uint8),
+                ("reserved", c_uint8)]
+
+
 class etcs_adapted(Structure):
     _fields_ = [("outcome", c_uint32), ("len", c_uint32), ("start", c_uint32), ("bits", c_uint32)]
 
@@ -538,6 +601,9 @@ CALLS: dict[str, tuple[object, ...]] = {
     "etcs_unit_state_": (POINTER(etcs_unit), POINTER(etcs_unit_state_info)),
     "etcs_unit_why_": (POINTER(etcs_unit), POINTER(etcs_unit_why_info)),
     "etcs_unit_driver_": (POINTER(etcs_unit), POINTER(etcs_unit_driver_info)),
+    "etcs_unit_refusals_": (POINTER(etcs_unit), POINTER(etcs_unit_refusals_info)),
+    "etcs_unit_preview_telegram_": (POINTER(etcs_unit), c_char_p, c_uint64, POINTER(etcs_unit_preview_info)),
+    "etcs_unit_preview_odometer_": (POINTER(etcs_unit), c_int64, c_uint32, POINTER(etcs_unit_preview_info)),
     "etcs_unit_close_": (POINTER(etcs_unit),),
     "etcs_unit_format_request_": (c_uint32, c_uint32, POINTER(etcs_unit_request_info), c_char_p, c_uint64),
     "etcs_telegram_adapt_": (c_char_p, c_uint64, c_char_p, c_uint64, POINTER(etcs_adapted)),

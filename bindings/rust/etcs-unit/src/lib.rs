@@ -20,6 +20,9 @@ pub use journal::{Journal, Record};
 pub use numbers::*;
 pub use sys::etcs_train_data as TrainData;
 pub use sys::etcs_unit_driver_info as Driver;
+pub use sys::etcs_unit_group as ClosedGroup;
+pub use sys::etcs_unit_preview_info as Preview;
+pub use sys::etcs_unit_refusals_info as Refusals;
 pub use sys::etcs_unit_state_info as State;
 pub use sys::etcs_unit_why_info as Why;
 
@@ -268,6 +271,31 @@ impl<M: Medium> Unit<M> {
         // SAFETY: as above.
         check(unsafe { sys::etcs_unit_driver_(&mut *self.handle, &mut driver) })?;
         Ok(driver)
+    }
+
+    /// Why each action of the driver wouldn't be accepted as the next input, after all inputs that were taken, released or not.
+    pub fn refusals(&mut self) -> Result<Refusals, Error<M::Error>> {
+        let mut refusals = Refusals::default();
+        // SAFETY: as above.
+        check(unsafe { sys::etcs_unit_refusals_(&mut *self.handle, &mut refusals) })?;
+        Ok(refusals)
+    }
+
+    /// What becomes of the bytes of a balise, and of the groups that they close, if they are the next input. Show it only after the
+    /// release of that input.
+    pub fn preview_telegram(&mut self, bytes: &[u8]) -> Result<Preview, Error<M::Error>> {
+        let mut preview = Preview::default();
+        // SAFETY: as above; the pointer is good for the bytes.
+        check(unsafe { sys::etcs_unit_preview_telegram_(&mut *self.handle, bytes.as_ptr(), bytes.len() as u64, &mut preview) })?;
+        Ok(preview)
+    }
+
+    /// What becomes of the group that a reading closes, if it is the next input, as for `preview_telegram`.
+    pub fn preview_odometer(&mut self, movement_cm: i64, speed_m_per_h: u32) -> Result<Preview, Error<M::Error>> {
+        let mut preview = Preview::default();
+        // SAFETY: as above.
+        check(unsafe { sys::etcs_unit_preview_odometer_(&mut *self.handle, movement_cm, speed_m_per_h, &mut preview) })?;
+        Ok(preview)
     }
 }
 

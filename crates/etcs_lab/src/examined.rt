@@ -1,33 +1,34 @@
 //! The command `examine`.
 
+use crate::findings::{examine_into, examined_status};
 use crate::images::{Image, opened_whole};
 use crate::status::{Status, no_memory, unread, unwritten};
 use command_line::LabImage;
-use lab_examine::{ExamineError, JsonExamination, Verdict, examine};
-use line_sinks::TextLines;
+use lab_examine::{ExamineError, Verdict};
+use std::alloc::Global;
 use std::fs::File;
 use std::io::Write;
 use std::rt::Files;
 use text_output::Form;
 
-/// Examines an open image, and answers what it is found to be; else says why that isn't known.
-pub(crate) fn verdict_of<R: AllocGlobal + Eprint, W: Write>(
-    rt: &R,
+/// Says why an examination did not come to its end.
+pub(crate) fn unexamined<R: Eprint>(rt: &R, path: &str, error: ExamineError) -> Status {
+    match error {
+        ExamineError::Device => unread(rt, path),
+        ExamineError::Write => unwritten(rt, path),
+        ExamineError::NoMemory => no_memory(rt, path),
+    }
+}
+
+// Examines an open image.
+fn examine_image<W: Write>(
+    alloc: Global,
     image: &mut Image,
     form: Form,
     out: &mut W,
-) -> Result<Verdict, Status> {
+) -> Result<Verdict, ExamineError> {
     let (disk, file) = (&mut image.disk, &image.file);
-    let examined = match form {
-        Form::Json => examine(disk, file, &mut JsonExamination::new(rt.alloc(), out)),
-        Form::People => examine(disk, file, &mut TextLines::new(out)),
-    };
-    match examined {
-        Ok(verdict) => Ok(verdict),
-        Err(ExamineError::Device) => Err(unread(rt, image.path)),
-        Err(ExamineError::Write) => Err(unwritten(rt, image.path)),
-        Err(ExamineError::NoMemory) => Err(no_memory(rt, image.path)),
-    }
+    examine_into(alloc, disk, file, form, out)
 }
 
 /// Examines an image, and answers the status.
@@ -39,11 +40,11 @@ pub(crate) fn examined<R: Files<File = File> + AllocGlobal + Eprint, W: Write>(
     out: &mut W,
 ) -> Result<Status, Status> {
     let mut image = opened_whole(rt, image, is_watched)?;
-    let verdict = verdict_of(rt, &mut image, form, out)?;
-    image.compare_digest(rt, is_watched)?;
-    match verdict {
-        Verdict::Whole => Ok(Status::Whole),
-        Verdict::Refused => Ok(Status::Refused),
-        Verdict::NotWhole => Ok(Status::Damaged),
+    match examine_image(rt.alloc(), &mut image, form, out) {
+        Ok(verdict) => {
+            image.compare_digest(rt, is_watched)?;
+            Ok(examined_status(verdict))
+        }
+        Err(error) => Err(unexamined(rt, image.path, error)),
     }
 }

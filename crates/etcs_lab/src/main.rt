@@ -6,6 +6,7 @@ mod checked;
 mod digest;
 mod event_lines;
 mod examined;
+mod findings;
 mod given;
 mod images;
 mod linted;

@@ -1,12 +1,10 @@
 //! The command `replay`.
 
+use crate::findings::{replay_into, replayed_status};
 use crate::images::opened;
 use crate::status::{Status, fail, unformatted, unread, unwritten};
 use command_line::LabImage;
-use disk::Disk;
-use lab_replay::{Outcome, WalkError, replay};
-use line_sinks::{JsonLines, TextLines};
-use std::alloc::Global;
+use lab_replay::WalkError;
 use std::fs::File;
 use std::io::Write;
 use std::rt::Files;
@@ -24,19 +22,6 @@ pub(crate) fn stopped<R: Eprint>(rt: &R, path: &str, error: WalkError) -> Status
     fail(rt, what, path, Status::Refused)
 }
 
-/// Replays the journal on a disk, and prints its lines.
-pub(crate) fn print_replay<D: Disk, W: Write>(
-    alloc: Global,
-    disk: &mut D,
-    form: Form,
-    out: &mut W,
-) -> Result<Outcome, WalkError> {
-    match form {
-        Form::Json => replay(alloc, disk, &mut JsonLines::new(alloc, out)),
-        Form::People => replay(alloc, disk, &mut TextLines::new(out)),
-    }
-}
-
 /// Replays the journal of an image, which is opened for reading alone, and answers the status.
 pub(crate) fn replayed<R: Files<File = File> + AllocGlobal + Eprint, W: Write>(
     rt: &R,
@@ -45,9 +30,8 @@ pub(crate) fn replayed<R: Files<File = File> + AllocGlobal + Eprint, W: Write>(
     out: &mut W,
 ) -> Result<Status, Status> {
     let mut disk = opened(rt, image)?;
-    match print_replay(rt.alloc(), &mut disk, form, out) {
-        Ok(Outcome::Whole) => Ok(Status::Whole),
-        Ok(Outcome::Differs) => Ok(Status::Damaged),
+    match replay_into(rt.alloc(), &mut disk, form, out) {
+        Ok(outcome) => Ok(replayed_status(outcome)),
         Err(error) => Err(stopped(rt, image.path, error)),
     }
 }

@@ -5,8 +5,8 @@
     bench/campaign.py --help             print this
 
 Rows: `lab campaign` in a process for each processor, and by as many workers of a Dask scheduler on this machine; `lab test suites`. Columns: seconds;
-seconds of a processor, of all processes; lives a second; and the greatest memory, in MB, of lab, of another process of Python, and of etcs_lab. The
-ways take turns, and the minimum counts; of memory the maximum. Both ways have to make the same table.
+seconds of a processor, of all processes, but not of the start of scheduler and workers; lives a second; and the greatest memory, in MB, of lab, of another
+process of Python, and of etcs_lab. The ways take turns, and the minimum counts; of memory the maximum. Both ways have to make the same table.
 """
 import json
 import os
@@ -53,9 +53,14 @@ def processor_seconds():
     return used.ru_utime + used.ru_stime
 
 
+def used_by(process):
+    """Seconds of a processor of a process that runs, and of those that it waited for."""
+    return sum(map(int, Path(f"/proc/{process}/stat").read_text().rpartition(")")[2].split()[11:15])) / os.sysconf("SC_CLK_TCK")
+
+
 def measured(*words, others=()):
-    """Seconds, seconds of a processor and memory of a command of ./lab, and what it printed; `others` are processes that end with it."""
-    before, since = processor_seconds(), time.monotonic()
+    """Seconds, seconds of a processor and memory of a command of ./lab, with those of other processes that end with it."""
+    before, since = processor_seconds() + sum(used_by(one.pid) for one in others), time.monotonic()
     process = subprocess.Popen([TOP / "lab", *map(str, words)], stdin=subprocess.DEVNULL, stdout=subprocess.PIPE, text=True)
     memory = Memory(process.pid)
     memory.start()

@@ -11,7 +11,6 @@ import contextlib
 import json
 import os
 import subprocess
-import tempfile
 import threading
 from collections.abc import Callable, Generator, Iterable, Mapping
 from pathlib import Path
@@ -90,7 +89,7 @@ def played(lines: Iterable[bytes], slots: int, outputs: Which, images: Path | No
     """The result of each input line, which a function reads from the line that is printed."""
     words = [program.find(), "play", f"--slots={slots}", f"--outputs={outputs}", *([] if images is None else [f"--images={images}"])]
     count = 0
-    with tempfile.TemporaryFile() as errors:
+    with program.message_file() as errors:
         try:
             process = subprocess.Popen(words, stdin=subprocess.PIPE, stdout=subprocess.PIPE, stderr=errors)
         except OSError as error:

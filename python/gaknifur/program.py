@@ -15,6 +15,7 @@ import tempfile
 from collections.abc import Generator, Iterator, Sequence
 from dataclasses import dataclass
 from pathlib import Path
+from typing import IO
 
 from .journal import layout
 
@@ -200,6 +201,11 @@ def memory_file(name: str) -> int:
     other = fcntl.fcntl(file, fcntl.F_DUPFD_CLOEXEC, 3)
     os.close(file)
     return other
+
+
+def message_file() -> IO[bytes]:
+    """A file for what a program says on standard error: in memory, since a full disk may be what it says. (Only Linux has such files.)"""
+    return os.fdopen(memory_file("errors"), "w+b") if hasattr(os, "memfd_create") else tempfile.TemporaryFile()
 
 
 def ended(process: int) -> int:

@@ -1,8 +1,8 @@
 #!/usr/bin/env python3
 """Run campaigns on the programs: the same lives in processes of this machine, and by a scheduler with two workers, one of which is
 killed in the middle, and by a campaign that is interrupted and goes on, give the same table; played together by `etcs_lab play`, and one by one by
-`etcs run` with a replay, lives and scenarios with faults come to the same rows; a program that dies or alters an output, a worker that is killed and a
-full disk are reported; a case file gives its row.
+`etcs run` with a replay, lives and scenarios with faults come to the same rows; a program that dies or alters an output, a worker that is killed, a
+full disk and images that don't fit are reported; a case file gives its row.
 
     tests/lab_package/campaign_rows.py ETCS ETCS_LAB [LIVES]
 """
@@ -224,6 +224,23 @@ def full_disk(room):
     unless(done.returncode == 0 and done.stdout.startswith(f"{lives} rows, {lives - before} of them"), f"after a full disk: {done.stdout}{done.stderr}")
 
 
+def full_images(room):
+    """Images that don't fit into their folder, which is in a small memory disk: their rows say so, and run again. Only where the user may mount one."""
+    if subprocess.run(["unshare", "-rm", "true"], stderr=subprocess.DEVNULL).returncode:
+        print("campaign_rows: no memory disk can be mounted here, so images that don't fit weren't tried")
+        return
+    small, out, lives = room / "small", room / "images.db", 200
+    small.mkdir()
+    words = ("campaign", "--random", lives, "--seed", "7", "--jobs", "1", out)
+    done = subprocess.run(["unshare", "-rm", "sh", "-c", 'mount -t tmpfs -o size=96k none "$0" && TMPDIR=$0 exec "$@"', small, TOP / "lab", *map(str, words)],
+                          stdin=subprocess.DEVNULL, capture_output=True, text=True)
+    unless(done.returncode == 4 and f": failed: {small}/" in done.stdout and done.stdout.count(".image: can't be written\n") > 1 and "lost" not in done.stdout,
+           f"images that don't fit: {done.returncode} {done.stdout}{done.stderr}")
+    failed = int(done.stdout.partition("played now; ")[2].partition(" ")[0] or 0)
+    done = lab(*words)
+    unless(failed and done.stdout == f"{lives} rows, {failed} of them played now; 0 not sound\n", f"after images that didn't fit: {done.stdout}{done.stderr}")
+
+
 def faults(room, whole):
     """What has to be reported: a row that differs, a table of other programs, a case that fails, words that are none."""
     other = room / "other.db"
@@ -281,6 +298,7 @@ def main():
         stand_ins(room, whole, lives)
         worker_killed(room, whole, lives)
         full_disk(room)
+        full_images(room)
         faults(room, whole)
     print(f"campaign_rows: {lives} lives here, by two workers of which one was killed, interrupted, and with faults: the same table; {LIVES_BOTH_WAYS} "
           f"lives both ways; "

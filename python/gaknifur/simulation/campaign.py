@@ -201,6 +201,7 @@ def here(jobs: Iterable[Job], count: int, workers: int, take: Take) -> int:
         while True:
             is_broken = not hand_out(left, running, pool, workers)
             if not running and not is_broken:
+                pool.shutdown()  # and waits, since Python's exit may otherwise use a pipe that this closes
                 return left.lost_batches
             broken: list[list[Job]] = []
             for done in wait(running, return_when=FIRST_COMPLETED).done:

@@ -1,4 +1,5 @@
 """Scenarios that run together: what the program prints, the images that it writes, and a program that dies or can't write."""
+import contextlib
 import hashlib
 import json
 import os
@@ -80,11 +81,12 @@ class Images(unittest.TestCase):
         gap = [blocks_of("FS")[0], [record_bytes(2, "clock", "FS", 0)]]
         for name, image in (("cut", good[:-1]), ("no first sector", bytes(512) + good[512:]), ("no bytes", b""), ("a gap of events", image_of(*gap)),
                             ("a gap of blocks", image_of(*blocks_of("FS"), first=2)), ("an open gate", bytes(good).replace(layout.gate(2), layout.gate(3), 1)),
-                            ("another mark", good.replace(b"ETCSHED3", b"ETCSHED2")), 
+                            ("another mark", good.replace(b"ETCSHED3", b"ETCSHED2")), ("a gate with more", good.replace(layout.gate(2), layout.gate(2)[:-1] + b"\1")),
+                            ("other events", image_of(blocks_of()[0], [record_bytes(5, "clock", "FS", 0), record_bytes(2, "clock", "FS", 0)])),
                             ("a mode", image_of(blocks_of()[0], [b"\4\5" + record_bytes(1, "clock", "FS", 0)[2:]]))):
-            with self.subTest(name), self.assertRaises(Failed):
-                played_image.answers(image)
-                played_image.records(image)
+            for read in (played_image.answers, played_image.records):
+                with self.subTest(name), self.assertRaises(Failed):
+                    read(image)
 
 
 class Lines(unittest.TestCase):
@@ -178,31 +180,32 @@ class Rows(unittest.TestCase):
             assert answers is not None
             self.assertEqual(answers.events, range(first, 6))
 
-            def check(outputs: list[Json], count: int = 5) -> None:
+            def check(outputs: list[Json], wrong: str = "", count: int = 5) -> None:
                 """As an object, and as a line."""
                 result = campaign_jobs.result_in(line_of(outputs, count))
                 self.assertEqual((json.loads(b"[%b]" % result["text"]), result["events"], result["image"]), (outputs, count, 7))
                 for one in (result, {"events": count, "outputs": outputs}):
-                    campaign_jobs.check_outputs(one, answers, image)
+                    with contextlib.ExitStack() as stack:
+                        if wrong:
+                            stack.enter_context(self.assertRaisesRegex(Missed, wrong))
+                        campaign_jobs.check_outputs(one, answers, image)
 
             check(outputs)
             self.assertTrue(campaign_jobs.are_outputs(outputs, answers))  # so that not all records are read
             for at in range(len(outputs)):
                 altered = [one | ({"limit_m_per_h": 7} if number == at else {}) for number, one in enumerate(outputs)]
-                with self.assertRaisesRegex(Missed, "the output of its record: event [1-5] mode (FS|TR) .*\n.* limit 7 "):
-                    check(altered)
-            with self.assertRaisesRegex(Missed, "the output of its record: event 5 mode FS"):
-                check(outputs[:-1])
+                check(altered, "the output of its record: event [1-5] mode (FS|TR) .*\n.* limit 7 ")
+            check(outputs[:-1], "the output of its record: event 5 mode FS")
             for count in (4, 6):
-                with self.assertRaisesRegex(Missed, f"newest record of event {count}"):
-                    check(outputs, count)
+                check(outputs, f"newest record of event {count}", count)
 
     def test_a_text_that_is_that_of_the_records(self) -> None:
         """It isn't parsed. What isn't the line of a scenario that was carried out is an object."""
-        image = image_of(*blocks_of("FS", "FS", "TR"))
-        line = line_of([output(1, "FS"), output(3, "TR")], 3)
-        with patch.object(campaign_jobs, "are_outputs", side_effect=AssertionError):
-            campaign_jobs.check_outputs(campaign_jobs.result_in(line), played_image.answers(image), image)
+        for first in ("FS", "SB"):  # the power-up is in SB, and the first output is given also where it is like that
+            image = image_of(*blocks_of(first, first, "TR"))
+            line = line_of([output(1, first), output(3, "TR")], 3)
+            with patch.object(campaign_jobs, "are_outputs", side_effect=AssertionError):
+                campaign_jobs.check_outputs(campaign_jobs.result_in(line), played_image.answers(image), image)
         for other in (line.replace(b"done", b"stopped"), line.replace(b"null", b"7", 1), line.replace(b'"image":7', b'"image":null')):
             self.assertEqual(campaign_jobs.result_in(other), json.loads(other))
         for cut in (line[:-1], line[:-2], line[40:]):

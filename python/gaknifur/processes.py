@@ -37,10 +37,20 @@ def each(does: Callable[[Part], Result], parts: Iterable[Part], jobs: int) -> It
             while running:
                 yield running.pop(0).result()
         except BrokenProcessPool as error:
+            give_up(pool)
             raise Failed("a process was killed, or ran out of memory", DEVICE) from error
         finally:
             for one in running:
                 one.cancel()
+
+
+def give_up(pool: ProcessPoolExecutor) -> None:
+    """Ends a pool that lost a process. One of its threads may be writing a part that nobody will read, and Python's exit waits for that thread
+    (gh-94777, mended in Python 3.11.6). So the end is closed from which it would be read."""
+    queue = getattr(pool, "_call_queue", None)
+    pool.shutdown(wait=False)
+    if queue is not None:
+        queue._reader.close()
 
 
 def do(part: Any) -> Any:

@@ -96,7 +96,7 @@ twice=$(LC_ALL=C comm -12 "$made/types" "$made/names" | tr '\n' ' ')
 [ -z "$twice" ] || fails "a type and a call have one name: $twice"
 asked=$(nm -u "$static" | sed -n 's/^ *U //p' | LC_ALL=C sort -u | tr '\n' ' ')
 [ "$asked" = "memcpy memmove memset " ] || fails "the library without malloc asks for $asked"
-counted "names of the library" "$(wc -l <"$made/shown")" 113
+counted "names of the library" "$(wc -l <"$made/shown")" 123
 "$python" "$top/tests/unit/symbols.py" "$shared" $(cat "$made/shown") || fails "the calls as symbols"
 "$python" "$top/tests/unit/names.py" "$shared" $(cat "$made/shown") || fails "names of numbers"
 
@@ -165,7 +165,7 @@ for one in "$top"/examples/embedding/ada/{brake,read_image}.adb "$top"/tests/uni
         fails "$(basename "$one") doesn't compile"
 done
 for name in brake guard read_image; do cp "$made/rust/debug/$name" "$made/${name/guard/stops}.rs" && built=$((built + 1)); done
-counted "programs built" $built 76
+counted "programs built" $built 81
 
 # ---- what they answer
 

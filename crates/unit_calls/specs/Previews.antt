@@ -7,7 +7,7 @@ use Rattle.c_numbers.specs.Numbers.{flag_of}
 use Rattle.events.specs.declared.input.Event.{Event}
 use Rattle.events.specs.declared.input.Event.TheVariants as an_event
 use Rattle.events.specs.declared.input.Input.{Input}
-use Rattle.events.specs.declared.input.Input.TheVariants.{Telegram, Odometer, Clock, Driver}
+use Rattle.events.specs.declared.input.Input.TheVariants.{Telegram}
 use Rattle.kernel.specs.Lives.{life_of}
 use Rattle.kernel.specs.Quiet.{HasNoTrack, HasSpaceFor}
 use Rattle.mode_control.specs.Closings.{closings_by}

@@ -65,6 +65,7 @@ ROWS = """\
 0 lab diff image image
 0 lab test good
 0 lab case image --event 8
+0 lab why image 6
 0 lab join joined image
 0 tools/settle image
 0 tools/verify release
@@ -90,6 +91,7 @@ ROWS = """\
 2 etcs_lab nosuch
 2 lab nosuch
 2 lab report image
+2 lab why image x
 2 lab verify sealed --key sealed
 2 lab lint --without nosuch plain.json
 2 lab search --examples 0 search.yaml
@@ -126,6 +128,8 @@ ROWS = """\
 4 lab redact altered copy3
 4 lab case altered --event 5
 4 lab braking image
+4 lab why image
+4 lab why image 99
 4 lab diff altered altered
 4 lab join joined3 altered
 4 lab verify broken

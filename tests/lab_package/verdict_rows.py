@@ -79,6 +79,16 @@ def implausible(rows, room):
               (4, f"lab: {room}/i.bag/data/image: {sentence}", True, True))
 
 
+BRAKED = """\
+  the train was tripped: the minimum safe front was past the end of authority (event 10, 4.6.3)
+  no train may run in this mode: 0 km/h (4.4)
+  did it brake? life 1 events 8..12: emergency brake at 15 km/h, trip by event 10: the train stops
+    deceleration begins after 0 to ? s, 0 to 15 m: 0 to ? m/s²
+    standstill after 0 to ? s, 27 m
+    the train data promise 0.7 m/s² after 0 s, 12.41 m: reaction not sure, rate not sure, way broken""".splitlines()
+"""The end of `lab why` of the example trip: 15 m and 12 m, and no moment after the command; 0.7 m/s² stops 15 km/h in 12.41 m."""
+
+
 def honest(rows, room):
     """A journal in which nothing is odd has status 0 everywhere."""
     image = room / "honest"
@@ -88,6 +98,10 @@ def honest(rows, room):
     for words, out in ((["timeline"], "h.jsonl"), (["capture"], "h.pcap"), (["report"], "h.html"), (["database"], "h.db"), (["seal"], "h.bag"), (["table"], "h.xlsx")):
         _, said, status = run(*words, image, room / out)
         rows.same(f"{words[0]} of an honest journal", (status, said), (0, ""))
+    rows.same("why of an honest journal", (run("why", image)[0].splitlines()[-6:], run("why", image, 6)[::2]), (BRAKED, ("""event 6: brake none, limit 58.714 km/h, speed 30 km/h
+  the limit is that of the end of authority: 0 km/h at 300 m (3.8, 3.13)
+  did it brake? no brake is commanded
+""", 0)))
     rows.unless("Implausible" not in (room / "h.html").read_text(), "the report finds something")
     for page in ("h.html", "h.bag/data/report.html"):
         rows.unless("unit 17, vehicle 402 001, by the file next to the image" in (room / page).read_text(), f"{page} doesn't say whose it is")
@@ -106,7 +120,7 @@ def honest(rows, room):
     rows.unless(f"read by {program.reader()}" in notes, f"the workbook doesn't say by what it was read: {notes}")
 
 
-COMMANDS = ("check image", "table image out.csv", "timeline image out.jsonl", "database image out.db", "braking image", "capture image out.pcap",
+COMMANDS = ("check image", "table image out.csv", "timeline image out.jsonl", "database image out.db", "braking image", "why image", "capture image out.pcap",
             "diff image image", "join joined image", "report image out.html", "seal image bag", "verify bag")
 """The commands that take altered images in turn; the last two take the same one."""
 COUNT, LEAST = 44, 10

@@ -1,4 +1,4 @@
-"""The commands about a journal: `table`, `timeline`, `database`, `report`, `check`, `braking`, `dissector` and `capture`.
+"""The commands about a journal: `table`, `timeline`, `database`, `report`, `check`, `braking`, `why`, `dissector` and `capture`.
 
 What takes long to load, such as pandas and matplotlib, is loaded by the command that needs it.
 """
@@ -12,8 +12,8 @@ from types import SimpleNamespace
 
 from .. import files, program
 from ..errors import say
-from ..journal import braking, plausibility, verdict
-from ..journal.reading import Journal, Json, Progress, check, objects, read
+from ..journal import braking, plausibility, verdict, why
+from ..journal.reading import Journal, Json, Progress, check, objects, parsed_all, read
 from ..journal.verdict import Verdict
 from ..program import DEVICE, NOT_WHOLE, REFUSED, WHOLE, WRONG_WORDS, Failed, Run
 
@@ -174,6 +174,24 @@ def measure_braking(given: SimpleNamespace, progress: Progress) -> int:
     sys.stdout.writelines((json.dumps(one) if given.json else braking.text(one)) + "\n" for one in found)
     sys.stdout.flush()
     return max(note(journal), NOT_WHOLE if any(map(braking.is_broken, found)) else WHOLE)
+
+
+def explain(given: SimpleNamespace, progress: Progress) -> int:
+    """Runs `lab why`."""
+    journal = read(given.image, replay=True, why=True, progress=progress)
+    event = [] if given.event is None else [str(given.event)]
+    run = Run(["why", *(["--json"] if given.json else [])], given.image, *event)
+    lines = run.all_lines()
+    texts = {} if given.json else why.paragraphs(lines)
+    found = list(why.explained(journal)) if given.event is None else \
+        list(why.of_event(journal, given.event, parsed_all(lines, "why") if given.json else [{"event": one} for one in texts]))
+    if run.status not in (WHOLE, NOT_WHOLE) or given.event is not None and not found:
+        raise run.failed(given.image)
+    if not found:
+        raise Failed(f"{given.image}: no record commands a brake", REFUSED)
+    sys.stdout.writelines(f"{json.dumps(one.as_json())}\n" if given.json else one.text(texts) for one in found)
+    sys.stdout.flush()
+    return max(note(journal), NOT_WHOLE if any(one.braking and braking.is_broken(one.braking) for one in found) else WHOLE)
 
 
 def write_dissector(given: SimpleNamespace, progress: Progress) -> None:

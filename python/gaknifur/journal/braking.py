@@ -274,18 +274,22 @@ def between(pair: list[int | None], unit: float, name: str) -> str:
     return f"{least} {name}" if least == most else f"{least} to {most} {name}"
 
 
-def text(one: Json) -> str:
-    """A row as text."""
+def parts(one: Json) -> list[str]:
+    """A row as text: the command and the answer, when deceleration begins, how it ends, and what the train data promise."""
     trip = f", trip by event {one['trip_event']}" if one["trip_event"] is not None else ""
-    line = (f"life {one['life']} events {one['first_event']}..{one['last_event']}: {one['brake']} brake at {kmh(one['speed_m_per_h'])} km/h{trip}: "
-            f"{ANSWERS[one['answer']]}")
+    found = [f"life {one['life']} events {one['first_event']}..{one['last_event']}: {one['brake']} brake at {kmh(one['speed_m_per_h'])} km/h{trip}: "
+             f"{ANSWERS[one['answer']]}"]
     if one["answer"] in ("standing", "too_few"):
-        return line
-    line += f"; deceleration begins after {between(one['begins_ms'], 1000, 's')}, {between(one['begins_cm'], 100, 'm')}"
-    if one["rate_cm_per_s2"] != list(UNKNOWN):
-        line += f": {between(one['rate_cm_per_s2'], 100, 'm/s²')}"
-    line += f"; {one['until']} after {between(one['ends_ms'], 1000, 's')}, {between(one['way_cm'], 100, 'm')}"
-    return line + (f"; {promise_text(one)}" if one["promised_cm"] is not None else "")
+        return found
+    rate = f": {between(one['rate_cm_per_s2'], 100, 'm/s²')}" if one["rate_cm_per_s2"] != list(UNKNOWN) else ""
+    found += [f"deceleration begins after {between(one['begins_ms'], 1000, 's')}, {between(one['begins_cm'], 100, 'm')}{rate}",
+              f"{one['until']} after {between(one['ends_ms'], 1000, 's')}, {between(one['way_cm'], 100, 'm')}"]
+    return found + ([promise_text(one)] if one["promised_cm"] is not None else [])
+
+
+def text(one: Json) -> str:
+    """A row as text, on one line."""
+    return "; ".join(parts(one))
 
 
 def promise_text(one: Json) -> str:

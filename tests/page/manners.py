@@ -120,7 +120,8 @@ def sources(_browser: Browser, _page: Path, _folder: Path) -> int:
         assert not FORBIDDEN.search(code), (path, FORBIDDEN.search(code))
         assert all(one.startswith("./") for one in re.findall(r'from "([^"]*)"', text)), path
         lines = text.splitlines()
-        assert len(lines) < 400 and max(map(len, lines)) <= 120, (path, len(lines), max(map(len, lines)))
+        is_written = path.name == "layouts.ts"  # (tools/page writes it anew, with the texts of causes on lines of their own)
+        assert is_written or len(lines) < 400 and max(map(len, lines)) <= 120, (path, len(lines), max(map(len, lines)))
         count += 1
     return count
 

@@ -170,7 +170,8 @@ def measure_braking(given: SimpleNamespace, progress: Progress) -> int:
     journal = read(given.image, replay=True, progress=progress)
     found = list(braking.rows(journal.records))
     if not found:
-        raise Failed(f"{given.image}: no record commands a brake", REFUSED)
+        say(f"{given.image}: no record commands a brake")
+        return note(journal) or REFUSED
     sys.stdout.writelines((json.dumps(one) if given.json else braking.text(one)) + "\n" for one in found)
     sys.stdout.flush()
     return max(note(journal), NOT_WHOLE if any(map(braking.is_broken, found)) else WHOLE)
@@ -188,7 +189,8 @@ def explain(given: SimpleNamespace, progress: Progress) -> int:
     if run.status not in (WHOLE, NOT_WHOLE) or given.event is not None and not found:
         raise run.failed(given.image)
     if not found:
-        raise Failed(f"{given.image}: no record commands a brake", REFUSED)
+        say(f"{given.image}: no record commands a brake")
+        return note(journal) or REFUSED
     sys.stdout.writelines(f"{json.dumps(one.as_json())}\n" if given.json else one.text(texts) for one in found)
     sys.stdout.flush()
     return max(note(journal), NOT_WHOLE if any(one.braking and braking.is_broken(one.braking) for one in found) else WHOLE)

@@ -3,7 +3,6 @@ import unittest
 
 from gaknifur.journal.demands import directions
 from gaknifur.journal.groups import Packet, direction, links_of, packets_of
-from gaknifur.testing.track_messages import Message, Read
 
 from .samples import AUTHORITY, record
 
@@ -16,12 +15,11 @@ class Directions(unittest.TestCase):
                                           ((), None, None)):
             self.assertEqual(direction(places, announced), wanted, (places, announced))
 
-    def test_a_journal_and_a_course_say_the_same(self) -> None:
+    def test_in_a_journal(self) -> None:
         for places, wanted in (((0, 1), 1), ((1, 0), 0)):
             headers = [AUTHORITY["header"] | {"N_PIG": place} for place in places]
             records = [record(1 + at, "telegram", decoded={"header": one, "packets": []}) for at, one in enumerate(headers)]
-            message = Message(tuple(Read(at, 0, 0, (0, 0), 0, "", one, ()) for at, one in enumerate(headers)), 2, 0)
-            self.assertEqual((set(directions(records).values()), message.nominal, message.passed(1 - wanted)), ({wanted}, wanted, wanted))
+            self.assertEqual(set(directions(records).values()), {wanted})
 
 
 class Links(unittest.TestCase):

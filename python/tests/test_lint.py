@@ -35,7 +35,7 @@ class Course(unittest.TestCase):
         # The odometer reports 160 and 305 cm of the ways of 150 and 300 cm.
         records = [event("clock"), event("odometer", movement_cm=160), event("telegram", telegram="aa"), event("odometer", movement_cm=305),
                    event("telegram", telegram="bb"), event("odometer", movement_cm=-5), event("driver")]
-        self.assertEqual([(event.pointer, event.place_cm) for event in course.driven(TRACK, 0, records)],
+        self.assertEqual([(event.pointer, event.place_cm) for event in course.driven(TRACK, 0, [(one, {}) for one in records])],
                          [("/drive", 0), ("/drive", 160), ("/groups/0/balises/0", 150), ("/drive", 455), ("/groups/0/balises/1", 450),
                           ("/drive", 445), ("/drive", 445)])
 

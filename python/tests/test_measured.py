@@ -13,7 +13,6 @@ from gaknifur.program import Failed
 from gaknifur.testing import coverage_sets, measured_coverage
 from gaknifur.testing.measured_coverage import Measured, add_floors, check_floors
 from gaknifur.testing.record_coverage import Driver, Reached, follow, measure_causes
-from gaknifur.testing.track_messages import Known
 
 from .samples import action, reading, record
 
@@ -29,7 +28,7 @@ def reached(records: list[Json], trips: dict[int, str] | None = None, driver: Dr
     """What a life reaches; trips by their events."""
     found = Reached()
     why = {event: Trip(cause, event) for event, cause in (trips or {}).items()}
-    follow(POWER_UP, [(one, Causes(None, trip=why.get(one["event"]))) for one in records], Known(), driver or Driver(), found)
+    follow(POWER_UP, [(one, Causes(None, trip=why.get(one["event"]))) for one in records], {}, driver or Driver(), found)
     return found.sets
 
 

@@ -32,6 +32,8 @@ TRACKS, LEAST_RAISED = 560, 500  # so many tracks, and limits that are greater w
 # 2^40 cm would take more events than an image holds; the two modes that supervise by train data are entered with valid ones, and keep them.
 UNMET = ("in_system_failure", "no_train_data")
 LEFT_OUT = ("before_oldest_block", "gap", "within_block", "unreadable")  # the reasons of events and blocks that aren't replayed
+KNOWN, KNOWN_OF = ("group_of_fix", "group_being_read", "links", "has_missed", "free", "authority", "areas", "announced_level", "restrictions", "countries",
+                   "announced_values_cm", "train"), 3  # what has to be known somewhere; of each third image it is compared
 RANDOM = 150  # images of pseudo-random lives, along with those of the replays
 
 SR = ("enter-identity A 1", "choose-level 1", "enter-train-data 20000 160000 70 0 15", "start")
@@ -198,6 +200,17 @@ class WhyRows(Compared):
             wanted, _, one = explained(walk, number % 40)
             self.as_json(f"{name}, event {number % 40}", self.run(data, "--json", "@", str(number % 40)), wanted, one)
             self.take(lines)
+            if number % KNOWN_OF == 0:
+                wanted, _, lines = explained(walk_of(data, True))
+                self.as_json(f"{name}, what is known", self.run(data, "--json", "--known", "@"), wanted, lines)
+                self.known(lines)
+
+    def known(self, lines):
+        """Notes which members of what is known were other than at a power-up."""
+        for line in lines:
+            known = line.get("known", {})
+            self.met.update(f"known {name}" for name, value in known.items() if value)
+            self.met["known free"] += not known.get("is_free", True)
 
     def as_json(self, name, found, wanted, lines):
         status, text = found
@@ -250,7 +263,7 @@ class WhyRows(Compared):
         print(f"tracks without what decides: limit greater {counted['greater']}, another of equal force {counted['of equal force']}, left out "
               f"{counted['of more than one thing']}")
         kinds = [*KINDS, *(f"trip {why}" for why in TRIPS), *(f"group {kind}" for kind in GROUP_KINDS)]
-        for word in [*(word for word, *_ in WORDS.values()), *kinds, *LEFT_OUT]:
+        for word in [*(word for word, *_ in WORDS.values()), *kinds, *LEFT_OUT, *(f"known {name}" for name in KNOWN)]:
             if not self.met[word] and word not in UNMET:
                 self.report(f"no image has {word}")
         if self.count < LEAST or self.lines < LEAST_LINES or counted["greater"] < LEAST_RAISED:

@@ -4,12 +4,14 @@ before it, and each event has a line at which the brake, the limit, a cause of t
 telegram demands something outside the unit.
 Events whose life can't be replayed have one line with the reason, and so has each block that can't be read.
 
-    tests/plain/why.py [--json] IMAGE [EVENT]     print what `etcs_lab why` prints, and end with its status
+    tests/plain/why.py --json [--known] IMAGE [EVENT]     print what `etcs_lab why` prints, and end with its status
+    tests/plain/why.py IMAGE [EVENT]                      print it for people
 """
 import sys
 from pathlib import Path
 
 import demand_words
+import known
 import output
 import group_words
 from limit_reasons import KINDS, limit_cause
@@ -118,6 +120,8 @@ class Why(Walk):
     """Of each event whose life is known its number, whether it has a line of its own, and what the line says in both forms; `lines` has with
     them, as events of no number, those that are left out and the blocks that can't be read."""
 
+    shows_known = False
+
     @property
     def events(self):
         return [line for line in self.lines if line[0] is not None]
@@ -135,12 +139,14 @@ class Why(Walk):
         else:
             self.reasons.note(number, record["event"][1] if record["event"][0] == "telegram" else None)
         said = self.reasons.line(number) + "".join(map(demand_words.line, self.reasons.demands))
-        self.lines.append((number, self.reasons.is_new(), said, self.reasons.all_members(number)))
+        all_known = {"known": known.members(self.life)} if self.shows_known else {}
+        self.lines.append((number, self.reasons.is_new() or self.shows_known, said, self.reasons.all_members(number) | all_known))
 
 
-def walk_of(data):
+def walk_of(data, shows_known=False):
     """The walk over an image; None where it is refused."""
     walk = Why()
+    walk.shows_known = shows_known
     return walk if walk.over(data) else None
 
 
@@ -160,8 +166,8 @@ def explained(walk, only=None):
 
 
 def main(words):
-    is_json, words = "--json" in words, [word for word in words if word != "--json"]
-    status, said, objects = explained(walk_of(Path(words[0]).read_bytes()), int(words[1]) if words[1:] else None)
+    is_json, is_known, words = "--json" in words, "--known" in words, [word for word in words if word not in ("--json", "--known")]
+    status, said, objects = explained(walk_of(Path(words[0]).read_bytes(), is_known), int(words[1]) if words[1:] else None)
     print(json_lines(objects) if is_json else said, end="")
     return status
 

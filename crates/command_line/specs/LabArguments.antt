@@ -41,7 +41,7 @@ abbrev pub image_app : Text → Text → App
 image_app name option = with_rule (with_rule (with_rule (new_app name) (flag option)) slots) (required (codes "IMAGE"))
 
 abbrev pub why_app : App
-why_app = with_rule (image_app (codes "why") (codes "json")) event
+why_app = with_rule (with_rule (image_app (codes "why") (codes "json")) event) (flag (codes "known"))
 
 -- a command with one value, and --json
 abbrev pub value_app : Text → Text → App
@@ -86,7 +86,7 @@ pub data LabValues : Type 0 where
   events : ImageValues → Bool → LabValues
   replay : ImageValues → Bool → LabValues
   check : ImageValues → Bool → LabValues
-  why : ImageValues → Option ℕ → Bool → LabValues
+  why : ImageValues → Option ℕ → Bool → Bool → LabValues
   decode : Text → Bool → LabValues
   packets : Text → Bool → LabValues
   telegram : Text → LabValues
@@ -104,7 +104,7 @@ values_of (command.Examine image json) = examine (image_values_of image) json
 values_of (command.Events image all) = events (image_values_of image) all
 values_of (command.Replay image json) = replay (image_values_of image) json
 values_of (command.Check image json) = check (image_values_of image) json
-values_of (command.Why image event json) = why (image_values_of image) event json
+values_of (command.Why image event known json) = why (image_values_of image) event known json
 values_of (command.Decode hex json) = decode hex.now json
 values_of (command.Packets hex json) = packets hex.now json
 values_of (command.Telegram file) = telegram file.now
@@ -126,7 +126,7 @@ image_values rows = option_and_then (λ path. option_map (λ slots. (path, slots
     (first_of (codes "IMAGE") rows)
 
 abbrev pub why_values : List Row → Option LabValues
-why_values rows = option_and_then (λ image. option_map (λ event. why image event (is_set (codes "json") rows)) (optional_number most_u64 (first_of (codes "EVENT") rows)))
+why_values rows = option_and_then (λ image. option_map (λ event. why image event (is_set (codes "known") rows) (is_set (codes "json") rows)) (optional_number most_u64 (first_of (codes "EVENT") rows)))
     (image_values rows)
 
 -- exactly one of the three is given

@@ -48,6 +48,8 @@ pub enum LabCommand<'a> {
     Why {
         image: LabImage<'a>,
         event: Option<u64>,
+        /// Whether what is known after each event is printed too.
+        known: bool,
         is_json: bool,
     },
     /// Decode a telegram.
@@ -167,10 +169,12 @@ fn why_command<'a>(matches: &ArgMatches<'a>) -> Option<LabCommand<'a>>
         Some(text) => Some(u64_of(text)?),
         None => None,
     };
+    let known = is_set(matches, "known");
     let is_json = is_set(matches, "json");
     Some(LabCommand::Why {
         image,
         event,
+        known,
         is_json,
     })
 }

@@ -71,6 +71,15 @@ fn event_arg<'a>(alloc: Global) -> Arg<'a>
         .help("Number of one event (default: each event at which brake, limit or a cause changes)")
 }
 
+fn known_arg<'a>(alloc: Global) -> Arg<'a>
+    ensures { IsArg (spec.flag (codes "known")) result }
+{
+    Arg::new(alloc, "known")
+        .long("known")
+        .action(ArgAction::SetTrue)
+        .help("Print what the unit knows of the train and the track too, after each event")
+}
+
 fn hex_arg<'a>(alloc: Global) -> Arg<'a>
     ensures { IsArg (required (codes "HEX")) result }
 {
@@ -202,7 +211,8 @@ fn why_app<'a>(alloc: Global) -> Result<Command<'a>, AllocError>
     let first = with_arg(Ok(new), json_arg(alloc));
     let second = with_arg(first, slots_arg(alloc));
     let third = with_arg(second, image_arg(alloc));
-    with_arg(third, event_arg(alloc))
+    let fourth = with_arg(third, event_arg(alloc));
+    with_arg(fourth, known_arg(alloc))
 }
 
 fn decode_app<'a>(alloc: Global) -> Result<Command<'a>, AllocError>

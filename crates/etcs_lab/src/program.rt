@@ -11,6 +11,7 @@ use crate::why::why_reported;
 use command_line::{LabArgsError, LabCommand, parse_lab};
 use lab_play::{PlayArgs, play_scenarios};
 use lab_telegrams::{adapted_reported, decode_reported, packets_reported, telegram_reported};
+use lab_why::Options;
 use std::fs::File;
 use std::io::Write;
 use std::rt::Files;
@@ -40,8 +41,12 @@ fn execute<R: Files<File = File> + Input + AllocGlobal + Eprint, W: Write>(
         LabCommand::Why {
             image,
             event,
+            known,
             is_json,
-        } => { why_reported(rt, image, event, form_of(is_json), out) }
+        } => {
+            let options = Options { only: event, known };
+            why_reported(rt, image, options, form_of(is_json), out)
+        }
         LabCommand::Decode { hex, is_json } => decode_reported(rt, hex, is_json, out),
         LabCommand::Packets { hex, is_json } => packets_reported(rt, hex, form_of(is_json), out),
         LabCommand::Telegram { file } => telegram_reported(rt, file, out),

@@ -5,7 +5,7 @@ use crate::replayed::stopped;
 use crate::status::{Status, fail};
 use command_line::LabImage;
 use disk::Disk;
-use lab_why::{WalkError, Walked, describe_why};
+use lab_why::{Options, WalkError, Walked, describe_why};
 use line_sinks::{JsonLines, TextLines};
 use std::alloc::Global;
 use std::fs::File;
@@ -17,13 +17,13 @@ use text_output::Form;
 fn print_why<D: Disk, W: Write>(
     alloc: Global,
     disk: &mut D,
-    only: Option<u64>,
+    options: Options,
     form: Form,
     out: &mut W,
 ) -> Result<Walked, WalkError> {
     match form {
-        Form::Json => describe_why(alloc, disk, only, &mut JsonLines::new(alloc, out)),
-        Form::People => describe_why(alloc, disk, only, &mut TextLines::new(out)),
+        Form::Json => describe_why(alloc, disk, options, &mut JsonLines::new(alloc, out)),
+        Form::People => describe_why(alloc, disk, options, &mut TextLines::new(out)),
     }
 }
 
@@ -31,19 +31,19 @@ fn print_why<D: Disk, W: Write>(
 pub(crate) fn why_reported<R: Files<File = File> + AllocGlobal + Eprint, W: Write>(
     rt: &R,
     image: LabImage,
-    only: Option<u64>,
+    options: Options,
     form: Form,
     out: &mut W,
 ) -> Result<Status, Status> {
     let mut disk = opened(rt, image)?;
-    match print_why(rt.alloc(), &mut disk, only, form, out) {
-        Ok(walked) if only.is_some() && walked.events == 0 => Err(fail(
+    match print_why(rt.alloc(), &mut disk, options, form, out) {
+        Ok(walked) if options.only.is_some() && walked.events == 0 => Err(fail(
             rt,
             "has no such event in a life that can be replayed",
             image.path,
             Status::Damaged,
         )),
-        Ok(walked) if only.is_none() && !walked.is_whole => Ok(Status::Damaged),
+        Ok(walked) if options.only.is_none() && !walked.is_whole => Ok(Status::Damaged),
         Ok(_) => Ok(Status::Whole),
         Err(error) => Err(stopped(rt, image.path, error)),
     }

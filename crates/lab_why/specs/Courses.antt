@@ -4,7 +4,7 @@
 -- and what decides a limit (`IsLimitCause`, in speed_supervision), where of several of equal force one is named. It is
 -- said of every story that may stand before a life, of this unit's own events or not: whatever the head before it
 -- reports, there is one after which just that is kept (`story_by`).
-use Rattle.std.specs.Prelude.{◌≡◌, ◌⊎◌, ℕ, ◌-◌, ◌^◌, true, false, Option, Some, None, List, [], Result, Ok, Err}
+use Rattle.std.specs.Prelude.{◌≡◌, ◌⊎◌, ℕ, ◌-◌, ◌^◌, Bool, true, false, Option, Some, None, List, [], Result, Ok, Err}
 use Rattle.blocks.specs.declared.records.BlockRecord.{BlockRecord}
 use Rattle.events.specs.declared.input.Event.{Event}
 use Rattle.events.specs.declared.input.Event.TheVariants.{PowerUp, Input}
@@ -27,7 +27,9 @@ use Rattle.lab_events.specs.declared.left_out.Reason.{Reason}
 use Rattle.lab_events.specs.declared.left_out.Reason.TheVariants as a_reason
 use Rattle.lab_events.specs.declared.left_out.Stretch.{Stretch}
 use Rattle.lab_why.specs.Demanding.{AreDemands}
+use Rattle.lab_why.specs.Known.{known_if}
 use Rattle.lab_why.specs.Lines.{event_line, groups_of, left_out_line, lost_block_line}
+use Rattle.lab_why.specs.declared.course.Options.{Options}
 use Rattle.lab_why.specs.declared.course.Course.{Course}
 use Rattle.lab_why.specs.declared.course.Explanation.{Explanation}
 use Rattle.lab_why.specs.declared.line.WhyLine.{WhyLine}
@@ -58,22 +60,26 @@ pub record IsSame (one other : Explanation) : Type 0 where
 
 -- an event of this number, before which an event of its life was answered so, has a line: it is the one that is asked
 -- for; or, where each change is, it is the first of its life, was answered in another way, or its telegram demands something
--- of the equipment around the unit
-abbrev pub HasLine : Option ℕ → ℕ → Option Explanation → Explanation → List DemandLine → Type 0
-HasLine (Some only) event before now demands = event ≡ only
-HasLine None event None now demands = Unit {0}
-HasLine None event (Some before) now demands = demands ≡ [] → IsSame before now → ⊥
+-- of the equipment around the unit; or what is known after each event is
+abbrev pub HasLineIn : Option ℕ → Bool → ℕ → Option Explanation → Explanation → List DemandLine → Type 0
+HasLineIn (Some only) known event before now demands = event ≡ only
+HasLineIn None known event None now demands = Unit {0}
+HasLineIn None known event (Some before) now demands = known ≡ false → demands ≡ [] → IsSame before now → ⊥
+
+abbrev pub HasLine : Options → ℕ → Option Explanation → Explanation → List DemandLine → Type 0
+HasLine options event before now demands = HasLineIn options.only options.known event before now demands
 
 -- this is the line of an event that has one, which counts, where its telegram demands this
-abbrev pub IsLineWith : Option ℕ → Story → ℕ → Option Explanation → Explanation → List DemandLine → ℕ → ℕ → Option WhyLine → Type 0
-IsLineWith only story event before now demands events more line =
-    (HasLine only event before now demands × (more ≡ one_more events (2 ^ 64 - 1)) × (line ≡ Some (event_line story event now (groups_of story) demands)))
-    ⊎ ((HasLine only event before now demands → ⊥) × (more ≡ events) × (line ≡ None))
+abbrev pub IsLineWith : Options → Story → ℕ → Option Explanation → Explanation → List DemandLine → ℕ → ℕ → Option WhyLine → Type 0
+IsLineWith options story event before now demands events more line =
+    (HasLine options event before now demands × (more ≡ one_more events (2 ^ 64 - 1))
+    × (line ≡ Some (event_line story event now (groups_of story) demands (known_if options.known (past_at story).life))))
+    ⊎ ((HasLine options event before now demands → ⊥) × (more ≡ events) × (line ≡ None))
 
-abbrev pub IsEventLine : Option ℕ → Story → BlockRecord → Option Explanation → Explanation → ℕ → ℕ → Option WhyLine → Type 0
-IsEventLine only story r before now events more line =
+abbrev pub IsEventLine : Options → Story → BlockRecord → Option Explanation → Explanation → ℕ → ℕ → Option WhyLine → Type 0
+IsEventLine options story r before now events more line =
     (demands : List DemandLine) × AreDemands r.event (judged_in story) before (groups_of story) demands
-    × IsLineWith only story r.number before now demands events more line
+    × IsLineWith options story r.number before now demands events more line
 
 -- ---- events of a life that isn't known
 
@@ -91,7 +97,7 @@ left_in None (Some s) reason = Some (left_out_line s reason)
 left_in only left reason = None
 
 abbrev pub left_line : Course → Option WhyLine
-left_line c = left_in c.only c.left c.reason
+left_line c = left_in c.options.only c.left c.reason
 
 -- .. and another one that a block can't be read
 abbrev pub lost_line : Option ℕ → ℕ → Option WhyLine
@@ -101,9 +107,9 @@ lost_line None number = Some (lost_block_line number)
 -- ---- courses
 
 -- before the oldest block
-abbrev pub initial : Option ℕ → Course
-initial only = record {
-  only = only;
+abbrev pub initial : Options → Course
+initial options = record {
+  options = options;
   life = None;
   before = None;
   reason = a_reason.BeforeOldest;
@@ -153,7 +159,7 @@ pub record DescribesLife (life : Reasoned) (r : BlockRecord) (c next : Course) (
   pub events : ℕ
   pub next_is : next ≡ record c { before = Some explanation; events = events }
   pub explains : (story : Story) → Reasons story life → Explains story explanation
-  pub line_is : (story : Story) → Reasons story life → IsEventLine c.only story r c.before explanation c.events events line
+  pub line_is : (story : Story) → Reasons story life → IsEventLine c.options story r c.before explanation c.events events line
 
 -- .. where the life is known; else it is left out
 abbrev pub Describes : Option Reasoned → ℕ → BlockRecord → Course → Course → Option WhyLine → Type 0
@@ -177,7 +183,7 @@ line_before (Step.Head block) c = None
 
 -- .. and that of the step
 abbrev pub IsStepLine : Step → Course → Course → Option WhyLine → Type 0
-IsStepLine (Step.Unreadable number) c next line = (next ≡ after_gap c) × (line ≡ lost_line c.only number)
+IsStepLine (Step.Unreadable number) c next line = (next ≡ after_gap c) × (line ≡ lost_line c.options.only number)
 IsStepLine Step.Missing c next line = (next ≡ after_gap c) × (line ≡ None)
 IsStepLine (Step.Begins block life before r) c next line =
     RunsAndDescribes (Begins before r.event) life r (initial_after before c.life (all_reported c)) next line

@@ -2,6 +2,7 @@ pub mod Courses
 pub mod Demanding
 pub mod Groups
 pub mod Images
+pub mod Known
 pub mod Lines
 pub mod Played
 pub mod Playing

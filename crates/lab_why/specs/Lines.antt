@@ -20,6 +20,7 @@ use Rattle.track_picture.specs.History.{speed_of}
 use Rattle.lab_why.specs.Groups.{group_lines}
 use Rattle.lab_why.specs.declared.course.Explanation.{Explanation}
 use Rattle.lab_why.specs.declared.group.GroupLine.{GroupLine}
+use Rattle.lab_why.specs.declared.known.KnownLine.{KnownLine}
 use Rattle.lab_why.specs.declared.line.Answer.{Answer}
 use Rattle.lab_why.specs.declared.line.Causes.{Causes}
 use Rattle.lab_why.specs.declared.line.WhyLine.{WhyLine}
@@ -54,13 +55,14 @@ causes_of runs trip limit = record {
 abbrev pub groups_of : Story → List GroupLine
 groups_of story = group_lines (judged_in story) (closings_of story)
 
--- the line of the last event of a story, of this number, which was answered so, with groups and demands
-abbrev pub event_line : Story → ℕ → Explanation → List GroupLine → List DemandLine → WhyLine
-event_line story event explanation groups demands = a_line.Event (record {
+-- the line of the last event of a story, of this number, which was answered so, with groups, demands and what is known
+abbrev pub event_line : Story → ℕ → Explanation → List GroupLine → List DemandLine → Option KnownLine → WhyLine
+event_line story event explanation groups demands known = a_line.Event (record {
   answer = answer_in story event (output_at story);
   causes = causes_of explanation.runs (trip_of story) explanation.decides;
   groups = groups;
   demands = demands;
+  known = known;
 })
 
 -- these events of this life can't be run again

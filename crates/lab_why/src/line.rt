@@ -6,6 +6,7 @@ ghost use Rattle.lab_why.specs.Lines.{answer_in, causes_of, event_line, left_out
 
 use crate::course::Explanation;
 use crate::group::GroupLine;
+use crate::known::KnownLine;
 use crate::serializing::{
     CauseRuns, write_limit_cause, write_limit_section, write_trip_cause, write_trip_section,
 };
@@ -79,6 +80,9 @@ pub struct EventLine {
     /// What a guard next to the unit demands by the telegram of the event, in their order.
     #[serde(skip_serializing_if = "Items::is_empty")]
     pub demands: Items<DemandLine>,
+    /// What is known after the event, where that is asked for.
+    #[serde(skip_serializing_if = "Option::is_none")]
+    pub known: Option<KnownLine>,
 }
 
 /// A line of an explanation.
@@ -129,15 +133,18 @@ pub(crate) fn causes_of(runs: &Runs, trip: &Option<TripReport>, limit: &LimitRep
     }
 }
 
-/// The line of the last event of a life, of this number, with the groups that it closed and the demands of its telegram.
+/// The line of the last event of a life, of this number, with the groups that it closed, the demands of its telegram and
+/// what is known after it.
 pub(crate) fn event_line(
     life: &Reasoning,
     event: u64,
     explanation: &Explanation,
     groups: Items<GroupLine>,
     demands: Items<DemandLine>,
+    known: Option<KnownLine>,
 ) -> WhyLine
-    ensures { (story : Story) → Reasons story life.now → result ≡ event_line story event explanation.now groups demands }
+    ensures { (story : Story) → Reasons story life.now
+        → result ≡ event_line story event explanation.now groups demands known }
 {
     let output = life.output();
     let answer = answer_in(life, event, &output);
@@ -147,6 +154,7 @@ pub(crate) fn event_line(
         causes,
         groups,
         demands,
+        known,
     })
 }
 

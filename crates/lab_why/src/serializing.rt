@@ -9,7 +9,7 @@ use reasons::{
 use serde::{Described, Serialize, Serializer};
 use sessions::of_stop;
 use track_packets::kind_of;
-use vars::{LinkOrientation, LinkReaction};
+use vars::{AreaMode, LinkOrientation, LinkReaction};
 use whole_lives::LiveError;
 
 // A text, or null.
@@ -77,6 +77,20 @@ pub(crate) fn write_direction<S: Serializer>(
         LinkOrientation::Reverse => "reverse",
     };
     write_text(direction.map(name), out)
+}
+
+pub(crate) fn write_orientation<S: Serializer>(
+    direction: &LinkOrientation,
+    out: &mut S,
+) -> Result<(), S::Error> {
+    write_direction(&Some(*direction), out)
+}
+
+pub(crate) fn write_area_mode<S: Serializer>(mode: &AreaMode, out: &mut S) -> Result<(), S::Error> {
+    match mode {
+        AreaMode::OnSight => out.str("on_sight"),
+        AreaMode::Shunting => out.str("shunting"),
+    }
 }
 
 pub(crate) fn write_outcome<S: Serializer>(kind: &GroupKind, out: &mut S) -> Result<(), S::Error> {

@@ -1,8 +1,9 @@
 //! The lines for people.
 use crate::group::{GroupLine, PacketLine, Unused};
+use crate::known::KnownLine;
 use crate::line::{Answer, Causes, EventLine, WhyLine};
 use kernel::BrakeCause;
-use line_sinks::{LengthText, PlaceText, SpeedText};
+use line_sinks::{LengthText, PlaceText, SpeedText, describe_lines};
 use reasons::{
     ending, group_section, group_sentence, limit_section, limit_sentence, sentence, trip_section,
     trip_sentence,
@@ -130,7 +131,16 @@ impl fmt::Display for EventLine {
         for demand in self.demands.as_slice() {
             write!(f, "\n  {demand}")?;
         }
-        Ok(())
+        match &self.known {
+            Some(known) => write!(f, "\n  known: {known}"),
+            None => Ok(()),
+        }
+    }
+}
+
+impl fmt::Display for KnownLine {
+    fn fmt<W: fmt::Write>(&self, f: &mut fmt::Formatter<W>) -> fmt::Result {
+        describe_lines(self, "\n    ", f)
     }
 }
 

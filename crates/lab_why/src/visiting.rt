@@ -10,6 +10,7 @@ use crate::course::{
 };
 use crate::demanding::demands_of;
 use crate::group::group_lines;
+use crate::known::known_if;
 use crate::line::{WhyLine, event_line};
 use blocks::{Block, BlockRecord};
 use events::{Event, Kept};
@@ -60,14 +61,15 @@ fn line_of(
     explanation: &Explanation,
 ) -> Result<(Option<WhyLine>, u64), NoMemory>
     ensures { (story : Story) → Reasons story life.now → IfOk result (λ found.
-        IsEventLine course.now.only story entry.now course.now.before explanation.now course.now.events found.1 found.0) }
+        IsEventLine course.now.options story entry.now course.now.before explanation.now course.now.events found.1 found.0) }
 {
     let (number, before) = (entry.number, &course.before);
     let closed = life.groups();
     let groups = group_lines(alloc, closed)?;
     let demands = demands_of(alloc, &entry.event, closed.mode, before, &groups)?;
-    if has_line(course.only, number, before, explanation, &demands) {
-        let line = event_line(life, number, explanation, groups, demands);
+    if has_line(course.options, number, before, explanation, &demands) {
+        let known = known_if(alloc, course.options.known, life)?;
+        let line = event_line(life, number, explanation, groups, demands, known);
         return Ok((Some(line), course.events.saturating_add(1)));
     }
     Ok((None, course.events))
@@ -138,7 +140,7 @@ impl Inquiry for Course {
     ghost lasting = { last_lines };
 
     fn unreadable(&mut self, number: u64) -> (Option<WhyLine>, Option<WhyLine>) {
-        let lost = lost_line(self.only, number);
+        let lost = lost_line(self.options.only, number);
         (pass_gap(self), lost)
     }
 

@@ -1,4 +1,5 @@
 """Read what telegrams say of balise groups: their packets, the groups that they announce, and the direction in which a group was passed."""
+import itertools
 from collections.abc import Iterable, Sequence
 from dataclasses import dataclass
 
@@ -70,15 +71,16 @@ def name_of(group: Group) -> str:
     return f"{group[0]}/{group[1]}"
 
 
+def packets_in_order(decoded: Json, pointer: str) -> tuple[Packet | None, ...]:
+    """The packets of a telegram before infill; None for each that isn't known."""
+    some = itertools.takewhile(lambda packet: packet["packet"] != INFILL, decoded["packets"])
+    return tuple(None if "skipped_bits" in one else Packet(one["packet"], tuple((name, number) for name, number in one["fields"]), pointer)
+                 for one in some)
+
+
 def packets_of(decoded: Json, pointer: str) -> tuple[Packet, ...]:
     """The known packets of a telegram before infill."""
-    found: list[Packet] = []
-    for packet in decoded["packets"]:
-        if packet["packet"] == INFILL:
-            break
-        if "skipped_bits" not in packet:
-            found.append(Packet(packet["packet"], tuple((name, number) for name, number in packet["fields"]), pointer))
-    return tuple(found)
+    return tuple(filter(None, packets_in_order(decoded, pointer)))
 
 
 def links_of(packet: Packet, country: int, place: int) -> Iterable[Link]:

@@ -3,18 +3,15 @@
 A finding that several lives have is one: with all modes and trains, and what isn't read.
 """
 import re
-import tempfile
 from collections.abc import Iterator
 from dataclasses import dataclass, field
-from pathlib import Path
 
 from ..escaping import shown
 from ..journal import _words, causes
 from ..journal.groups import links_of, name_of
-from ..journal.reading import Json, Progress, parsed
-from ..program import Run
+from ..journal.reading import Json, Progress
 from ..testing import cases, course, lint, track_checks
-from ..testing.course import Event
+from ..testing.course import Event, Played
 from ..testing.track_checks import RESTRICTING, Judged, metres
 from ..testing.track_messages import Message, Walked, walk
 from ..yaml_files import Value
@@ -166,29 +163,20 @@ def of_nominal(life: Life, walked: Walked) -> Iterator[Found | None]:
     brakes = ["none", *(str(event.record["brake"]) for event in walked.events)]
     begins = [at for at, (before, now) in enumerate(zip(brakes, brakes[1:])) if now not in ("none", before)
               and at >= len(life.start())]
-    held = causes_of(life) if begins else {}
     for at in begins:
+        held = "; ".join(_words.CAUSES[one][0] for one in causes.held(walked.events[at].line))
         yield finding(life, walked.events, LINE, walked.events[at].pointer, f"the {brakes[at + 1]} brake comes although all balises are "
-                      f"read: {held.get(at + 1, 'the cause is not reported')}", "correct what it comes from")
+                      f"read: {held}", "correct what it comes from")
 
 
-def causes_of(life: Life) -> dict[int, str]:
-    """The causes of the brakes of a life, as `etcs_lab run` reports them, by events."""
-    with tempfile.TemporaryDirectory(prefix="gaknifur-") as folder:
-        path = Path(folder) / "scenario.json"
-        path.write_text(life.scenario.text(), encoding="utf-8")
-        lines: list[Json] = [parsed(one, "run") for one in Run(["run"], path).lines()]
-    return {line["event"]: "; ".join(_words.CAUSES[one][0] for one in causes.held(line)) for line in lines if "event" in line}
-
-
-def of_unread(life: Life, events: list[Event], nominal: dict[int, Message]) -> Iterator[Found | None]:
+def of_unread(life: Life, walked: Walked, nominal: dict[int, Message]) -> Iterator[Found | None]:
     """A group that restricts, and that nothing brakes for if it or a balise of it isn't read."""
     assert life.unread is not None
     message = nominal.get(life.unread.group)
     packets = sends(message) if message else []
     group = life.book.groups[life.unread.group]
     passed = life.way(life.ordered(group)[0])
-    if message and packets and all(event.record["brake"] == "none" for event in events if event.place_cm >= passed):
+    if message and packets and all(event.record["brake"] == "none" for event in walked.events if event.place_cm >= passed):
         found = Found("2", life.direction, life.unread.group, 0, group.place_cm, life.start_cm, f"group {group.name} sends packets "
                       f"{', '.join(map(str, packets))}; if it isn't read, or a balise of it, nothing brakes up to the next group",
                       "announce it with Q_LINKREACTION 1 or 0", value_of(life, life.unread.group, 0, ""))
@@ -196,11 +184,11 @@ def of_unread(life: Life, events: list[Event], nominal: dict[int, Message]) -> I
         yield found
 
 
-def of_advice(life: Life, events: list[Event]) -> Iterator[Found | None]:
+def of_advice(life: Life, walked: Walked) -> Iterator[Found | None]:
     """The advice of `etcs_lab lint`."""
     for line in lint.advice(course.Life(None, life.scenario, None)):
         pointer = "/".join(line["pointer"].split("/")[:5])
-        yield finding(life, events, cases.ADVICE, pointer, lint.advice_text(line).removeprefix(f"{line['pointer']}: "), "")
+        yield finding(life, walked.events, cases.ADVICE, pointer, lint.advice_text(line).removeprefix(f"{line['pointer']}: "), "")
 
 
 # ---- the whole line
@@ -239,9 +227,9 @@ class Findings:
             one.item.zfill(2), one.direction, one.place_cm, one.text))
 
 
-def followed(life: Life, events: list[Event]) -> Walked:
+def followed(life: Life, played: Played) -> Walked:
     """A life with its messages. Its odometer has the readings of the train."""
-    walked = walk(events)
+    walked = walk(played)
     walked.reading_cm = life.train.reading_cm
     return walked
 
@@ -256,25 +244,25 @@ def check(book: Book, progress: Progress) -> Checked:
     """Checks a line."""
     checked, findings = Checked(book), Findings()
     nominal: dict[str, dict[int, Message]] = {}
-    for number, (life, events) in enumerate(lives.played(list(lives.nominal(book)), "the whole line", progress)):
-        walked = followed(life, events)
+    for number, (life, played) in enumerate(lives.played(list(lives.nominal(book)), "the whole line", progress)):
+        walked = followed(life, played)
         checked.nominal.append((life, walked))
         nominal.setdefault(life.direction, by_group(life, walked))
         for one in (*of_safety(life, walked), *of_places(life, walked), *of_nominal(life, walked),
-                    *(of_advice(life, events) if number == 0 else ())):
+                    *(of_advice(life, walked) if number == 0 else ())):
             findings.add(one)
     others, advised = list(lives.in_modes(book)), set[tuple[int, str]]()
-    for life, events in lives.played(others, "modes", progress):
-        walked = followed(life, events)
+    for life, played in lives.played(others, "modes", progress):
+        walked = followed(life, played)
         is_new = life.aspect is not None and life.aspect not in advised
-        for one in (*of_safety(life, walked), *of_places(life, walked), *(of_advice(life, events) if is_new else ())):
+        for one in (*of_safety(life, walked), *of_places(life, walked), *(of_advice(life, walked) if is_new else ())):
             findings.add(one)
         advised |= {life.aspect} if life.aspect else set()
     partly = [life for direction, messages in nominal.items() for life in lives.supervised(book, direction, {
         at for at, message in messages.items() if LEADS_TO_FS <= {packet.number for packet in message.packets}})]
-    for life, events in lives.played(partly, "missing balises", progress):
-        walked = followed(life, events)
-        for one in (*of_safety(life, walked), *(of_unread(life, events, nominal[life.direction]) if life.unread else ())):
+    for life, played in lives.played(partly, "missing balises", progress):
+        walked = followed(life, played)
+        for one in (*of_safety(life, walked), *(of_unread(life, walked, nominal[life.direction]) if life.unread else ())):
             (findings.add_new if life.unread else findings.add)(one)
     checked.lives = len(checked.nominal) + len(others) + len(partly)
     explain(checked, findings.merged(len(book.trains)))

@@ -12,10 +12,10 @@ from typing import Any
 from .. import program
 from ..journal import played_image
 from ..journal.reading import Progress
-from ..playing import play_images
+from ..playing import image_in, play_images
 from ..program import REFUSED, Failed
 from ..testing import course
-from ..testing.course import Event
+from ..testing.course import Event, Played
 from ..testing.scenarios import ACKNOWLEDGED, MOST_DRIVE_CM, WITHOUT_VALUE, Scenario
 from ..testing.track_messages import NEAR_CM
 from .book import DIRECTIONS, Book, Group, Train
@@ -177,8 +177,8 @@ def supervised(book: Book, direction: str, authorities: set[int]) -> Iterator[Li
 
 # ---- playing
 
-def played(lives: Sequence[Life], what: str, progress: Progress) -> Iterator[tuple[Life, list[Event]]]:
-    """Each life with its events, without the power-up."""
+def played(lives: Sequence[Life], what: str, progress: Progress) -> Iterator[tuple[Life, Played]]:
+    """Each life with its events."""
     lines = ((one.scenario.text().replace("\n", " ").encode(), one.slots) for one in lives)
     with program.temporary_folder(64 * max((one.slots for one in lives), default=1)) as folder:
         for number, (life, (result, image)) in enumerate(zip(lives, play_images(lines, Path(folder)))):
@@ -186,8 +186,10 @@ def played(lives: Sequence[Life], what: str, progress: Progress) -> Iterator[tup
             if result["status"] != "done":
                 raise Failed(f"{life.book.at.path}: a life {life.direction} in {life.mode} from km {life.start_cm / 100_000:.3f} on can't be "
                              f"played: {result}", REFUSED)
+            known = course.known_lines(Path(image_in(Path(folder), result)))
             records = played_image.records(image)[1:]
             for record in records:
                 if record["kind"] == "telegram":
                     record.update(life.book.telegrams[record["telegram"].upper()])
-            yield life, [Event(pointer, place, record) for (pointer, place), record in zip(life.planned, records)]
+            yield life, Played([Event(pointer, place, record, known[record["event"]])
+                                for (pointer, place), record in zip(life.planned, records)], known[0])

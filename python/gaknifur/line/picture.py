@@ -50,7 +50,7 @@ def authorities(life: Life, walked: Walked) -> list[Segment]:
 
 def restrictions(life: Life, walked: Walked) -> list[Segment]:
     """Each temporary restriction."""
-    found = {(one.start_cm, one.end_cm, one.speed) for known in walked.known for one in known.restrictions}
+    found = {tuple(one.line[name] for name in ("start_cm", "end_cm", "speed_m_per_h")) for known in walked.known for one in known.restrictions}
     return sorted((life.place(start), life.place(end), speed) for start, end, speed in found)
 
 

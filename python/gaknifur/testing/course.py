@@ -11,7 +11,8 @@ from dataclasses import dataclass
 from pathlib import Path
 
 from .. import etcs_run, program
-from ..journal.reading import Json, read
+from ..journal.reading import Json, parsed_all, read
+from ..program import Run
 from ..simulation import closed_loop, drives
 from ..simulation.drives import Drive
 from ..yaml_files import Value
@@ -41,11 +42,25 @@ def of_case(life: cases.Life) -> Life:
 
 @dataclass(frozen=True)
 class Event:
-    """An event of a life: the JSON pointer of its step, the real place of the front after it, and its record."""
+    """An event of a life: the JSON pointer of its step, the real place of the front after it, its record, and its line of `etcs_lab why
+    --known`."""
 
     pointer: str
     place_cm: int
     record: Json
+    line: Json
+
+
+Answer = tuple[Json, Json]
+"""A record, and its line of `etcs_lab why --known`."""
+
+
+@dataclass(frozen=True)
+class Played:
+    """The events of a life, and the line of its power-up."""
+
+    events: list[Event]
+    power_up: Json
 
 
 def scenario_of(life: Life) -> Scenario:
@@ -90,10 +105,10 @@ def readings(front: int, end: int) -> Iterator[int]:
         yield front
 
 
-def driven(scenario: Scenario, front: int, records: Sequence[Json]) -> Iterator[Event]:
+def driven(scenario: Scenario, front: int, records: Sequence[Answer]) -> Iterator[Event]:
     """The events of a closed loop. Their balises are found on the track by their telegrams."""
     balises = [balise for balise in balises_of(scenario) if balise[0] > front]
-    for record in records:
+    for record, line in records:
         front += record.get("movement_cm", 0)
         pointer = DRIVE
         if record["kind"] == "telegram":
@@ -101,13 +116,13 @@ def driven(scenario: Scenario, front: int, records: Sequence[Json]) -> Iterator[
             if index is not None:
                 front, pointer = balises[index][:2]
                 del balises[:index + 1]
-        yield Event(pointer, front, record)
+        yield Event(pointer, front, record, line)
 
 
-def events_of(life: Life, records: Sequence[Json]) -> list[Event]:
-    """The events of a life with these records, without the power-up."""
+def events_of(life: Life, records: Sequence[Answer]) -> list[Event]:
+    """The events of a life with these records and lines, without the power-up."""
     scenario = scenario_of(life)
-    found = [Event(pointer, place, record) for (pointer, place), record in zip(planned(scenario), records)]
+    found = [Event(pointer, place, *answer) for (pointer, place), answer in zip(planned(scenario), records)]
     if life.drive:
         found += driven(scenario, found[-1].place_cm if found else 0, records[len(found):])
     return found
@@ -136,19 +151,21 @@ def is_refused(life: Life, image: Path, folder: Path) -> bool:
     return etcs_run.run_life(path, image).is_refused
 
 
-def played(lives: Sequence[Life]) -> list[list[Event]]:
-    """The events of each life, run in turn on one image; none for a life that is refused."""
+def known_lines(image: Path) -> dict[int, Json]:
+    """What is known after each event of an image, as `etcs_lab why` prints it."""
+    return {line["event"]: line for line in parsed_all(Run(["why", "--json", "--known"], image).all_lines(), "why") if "known" in line}
+
+
+def played(lives: Sequence[Life]) -> list[Played | None]:
+    """The events of each life, run in turn on one image; None for a life that is refused."""
     slots = slots_for(lives)
     with program.temporary_folder(slots) as name:
         folder, image = Path(name), Path(name) / "image"
         program.format_image(image, slots)
         refused = [is_refused(life, image, folder) for life in lives]
-        journal = read(image, is_own=True)
-    records: dict[int, list[Json]] = {}
+        journal, lines = read(image, is_own=True), known_lines(image)
+    records: dict[int, list[Answer]] = {}
     for record in journal.records:
-        records.setdefault(record["life"], []).append(record)
-    found, number = [], 0
-    for life, is_none in zip(lives, refused):
-        number += not is_none
-        found.append([] if is_none else events_of(life, records.get(number, [])[1:]))
-    return found
+        records.setdefault(record["life"], []).append((record, lines[record["event"]]))
+    there = iter(records.values())
+    return [None if is_none else Played(events_of(life, (answers := next(there))[1:]), answers[0][1]) for life, is_none in zip(lives, refused)]

@@ -18,7 +18,7 @@ from ..yaml_files import Value, document
 from . import case_files, cases, track_checks
 from .course import DRIVE, Life, of_case, played, scenario_of
 from .track_checks import Finding, Judged
-from .track_messages import Known, walk
+from .track_messages import walk
 
 
 @dataclass(frozen=True)
@@ -175,11 +175,11 @@ def playable(life: Life) -> Life:
 
 def safety_of(subject: Subject, lives: list[Life]) -> Iterator[Line]:
     """What the checks find in the lives, played in turn."""
-    kept = Known()
-    for number, (life, events) in enumerate(zip(lives, played([playable(life) for life in lives])), 1):
-        walked = walk(events, kept)
-        kept = walked.known[-1] if walked.known else kept
-        has_guard = not any(map(track_checks.asks_guard, events)) or has_library()
+    for number, (life, one) in enumerate(zip(lives, played([playable(life) for life in lives])), 1):
+        if one is None:
+            continue
+        walked = walk(one)
+        has_guard = not any(map(track_checks.asks_guard, one.events)) or has_library()
         for found in track_checks.findings(Judged(walked, life.drive, has_guard)):
             members = {"safety": found.safety, "found": found.found, "do": found.do}
             yield Line(subject, number if subject.case else None, found.pointer, located(life, found.pointer), members,

@@ -1,10 +1,10 @@
 """Measure what the records of a journal reach of the sets of `coverage_sets`: rows, causes, packets, refusals, acknowledgements, facts, groups.
 
-Modes, brakes, limits, places and causes are the kernel's own, as `etcs_lab events` and `etcs_lab why` print them. No record
-contains which messages were used, which facts of the track they ended, and which actions were accepted; that is followed along
-the records (`track_messages`, and the page of tables). Only journals whose replay agrees count.
+Modes, brakes, limits, places, causes, which messages were used and what is known of the track are the kernel's own, as `etcs_lab
+events` and `etcs_lab why` print them. Which facts of the track an event ended, and which actions were accepted, is followed along
+the records (the page of tables). Only journals whose replay agrees count.
 """
-from collections.abc import Callable, Iterator, Sequence
+from collections.abc import Callable, Iterator, Mapping, Sequence
 from dataclasses import dataclass, field
 from itertools import pairwise
 
@@ -12,18 +12,19 @@ from ..journal.causes import Known as Causes, known as causes_of, rows_of
 from ..journal.groups import Link, Packet
 from ..journal.reading import Journal, Json
 from . import coverage_sets
-from .course import Event
+from .course import Event, known_lines
 from .coverage_sets import ACKNOWLEDGED, ACTIONS, BOTH, IN_ANOTHER_MODE, ITEM, NOT_STANDING, SECOND, Action
 from .mode_table import mode_table
-from .track_messages import ALWAYS, NOW, Known, Message, Walk
+from .track_messages import ALWAYS, NOTHING, NOW, Message, Placed, Walk
 
 LEVEL_OF = {0: 0, 2: 1}
 """M_LEVELTR of the levels that the train can run in."""
 WAITING = ("requested", "owed")
 MODE_OF = {"on_sight": "OS", "shunting": "SH"}
-AREA_OF = {"on_sight": 0, "shunting": 1}
 AREAS = {"on_sight": "on sight area", "shunting": "shunting area"}
 """The condition of the mode table by which an area leads to the mode of its kind."""
+ENDED_BY = {3: ("values",), 12: ("authority", "areas"), 80: ("areas",)}
+"""The facts that a packet ends; it brings the first of them, but values that come into force at once."""
 STAFF_DISTANCE = ("beyond staff distance", "staff_distance")
 """A condition of a row, and the cause of a trip that it means."""
 
@@ -75,7 +76,7 @@ NEEDS: dict[str, Need] = {
     "valid train data": lambda walk, was, now: "train_data" in walk.driver.valid,
     "no outstanding trip": lambda walk, was, now: not is_shown(was, "trip"),
     "an outstanding trip": lambda walk, was, now: is_shown(was, "trip"),
-    "a speed of at most V_NVALLOWOVTRP": lambda walk, was, now: walk.speed <= walk.known.national.allowed,
+    "a speed of at most V_NVALLOWOVTRP": lambda walk, was, now: bool(walk.speed <= walk.known.national["override_allowed_m_per_h"]),
     "that it is asked for or owed": lambda walk, was, now: is_shown(was, now["acknowledged"]),
 }
 """The conditions of an action, by the wording of the table; arguments are the walk, the record before, and its own."""
@@ -101,14 +102,17 @@ def failing(action: Action, walk: "Follow", was: Json, now: Json) -> list[str]:
 class Follow(Walk):
     """Follows the events of a life, and notes what they reach."""
 
-    def __init__(self, power_up: Json, events: list[Event], kept: Known, driver: Driver, notes: Reached) -> None:
-        super().__init__(events, kept)
+    def __init__(self, power_up: Json, line: Json, events: list[Event], driver: Driver, notes: Reached) -> None:
+        super().__init__(events, line)
         self.was, self.notes = power_up, notes
         self.driver: Driver = driver
         self.speed: int = 0
         self.accepted, self.has_missed = "", False
         self.level: Level | None = None
         self.profiles: set[int] = set()
+        self.facts: set[str] = set()
+        """Announced values, authority and areas within an event, if they are there; and the numbers of the restrictions."""
+        self.numbers: set[int] = set()
         self.trip_cause: str | None = None
         """Why the train is tripped in this event, if it is."""
         self.row_taken: int | None = None
@@ -121,6 +125,9 @@ class Follow(Walk):
             self.act(record)
         if record["kind"] == "telegram" and "refused" in record["decoded"]:
             self.notes.add("refusals of telegrams", record["decoded"]["refused"]["name"])
+        known = self.known
+        self.facts = {name for name, holds in (("values", self.is_waiting), ("authority", known.authority), ("areas", known.areas)) if holds}
+        self.numbers = {one.line["number"] for one in known.restrictions}
         super().event(number, event)
         self.speed = record.get("speed_m_per_h", self.speed)
         if record["level"] is not None:
@@ -160,26 +167,23 @@ class Follow(Walk):
         self.has_missed = self.has_missed or bool(links)
         return is_second
 
-    def miss(self, number: int, closed: Sequence[Message]) -> None:
+    def miss(self, number: int, event: Event) -> None:
         """Removes announcements that the minimum safe front has passed."""
-        before = self.known.links
-        super().miss(number, closed)
-        missed = [link for link in before if link not in self.known.links]
+        super().miss(number, event)
+        missed = [link for link in self.known.links if link not in self.left]
         is_second = self.lost(missed)
         for link in missed:
             self.end("link", "Group")
             self.group("announced, and the minimum safe front of a reading", link.reaction, is_second)
 
-    def judge(self, message: Message, mode: str) -> None:
-        """Decides whether a closed group is used."""
-        before = self.known
-        super().judge(message, mode)
-        found = self.walked.messages[-1]
-        self.verdict(found, before)
-        for packet in found.own if not found.is_broken else ():
-            self.packet(packet, found, mode)
+    def judge(self, message: Message) -> None:
+        """Notes what became of a group."""
+        self.verdict(message)
+        super().judge(message)
+        for packet in message.own if not message.is_broken else ():
+            self.packet(packet, message)
 
-    def verdict(self, message: Message, before: Known) -> None:
+    def verdict(self, message: Message) -> None:
         """Notes the row of the table that decides on a group."""
         link = message.link
         if link and (message.is_used or not message.is_broken):
@@ -192,18 +196,18 @@ class Follow(Walk):
                 self.group("broken, Q_LINK is 1, and it is announced", link.reaction)
             else:
                 self.group("broken, Q_LINK is 1, and it is not announced")
-        elif not message.is_linked:
-            self.group("Q_LINK is 0", before.is_free)
-        elif not before.links:
-            self.group("Q_LINK is 1, and no announcement is left", before.is_free)
-        elif link is None:
+        elif message.outcome == "not_linked":
+            self.group("Q_LINK is 0", message.makes_fix)
+        elif message.outcome == "linking_unused":
+            self.group("Q_LINK is 1, and no announcement is left", message.makes_fix)
+        elif message.outcome == "not_announced":
             self.group("Q_LINK is 1, and others are announced")
-        elif message.nominal not in (None, link.nominal):
+        elif message.outcome == "wrong_way":
             self.group("announced, and its direction")
-        elif not message.is_used:
+        elif message.outcome == "too_early" and link:
             self.group("announced, and the maximum safe front", link.reaction)
-        else:
-            self.take_link(before.links[:before.links.index(link)])
+        elif link:
+            self.take_link(self.left[:self.left.index(link)])
 
     def take_link(self, missed: Sequence[Link]) -> None:
         """Accepts an announced group; those that are announced before it are missed."""
@@ -214,8 +218,9 @@ class Follow(Walk):
         for link in missed:
             self.group("announced, and none of these", link.reaction, is_second)
 
-    def packet(self, packet: Packet, message: Message, mode: str) -> None:
+    def packet(self, packet: Packet, message: Message) -> None:
         """Notes a packet of a group that isn't broken, in the mode before the event."""
+        mode = message.mode
         if packet.number not in coverage_sets.used() or not message.is_used:
             return
         is_used, direction = mode in coverage_sets.used()[packet.number], packet.value("Q_DIR")
@@ -232,40 +237,59 @@ class Follow(Walk):
 
     def use(self, message: Message, packet: Packet) -> None:
         """Applies a packet: first what it ends, and then what it adds."""
-        known, level = self.known, level_of(packet, message) if packet.number == 41 else None
-        ended = {
-            3: ["values"] if known.waiting else [], 5: ["link"] if known.links else [],
-            12: [*(["authority", "look"] if known.authority else []), *(["areas"] if known.areas else [])],
-            80: ["areas"] if known.areas else [], 41: ["level"] if self.level and level else []}
-        for fact in ended.get(packet.number, ()):
-            self.end(fact, "Packet")
-        if packet.number in (65, 66) and packet.value("NID_TSR") != ALWAYS and any(
-                one.number == packet.value("NID_TSR") for one in known.restrictions):
-            self.end("restricted", "Packet")
+        for fact in ENDED_BY.get(packet.number, ()):
+            if fact in self.facts:
+                self.end(fact, "Packet")
+                if fact == "authority":
+                    self.end("look", "Packet")
+        self.facts -= set(ENDED_BY.get(packet.number, ()))
+        if packet.get("D_VALIDNV") != NOW:
+            self.facts |= set(ENDED_BY.get(packet.number, ())[:1])
+        if packet.number == 5 and self.left:
+            self.end("link", "Packet")
+        if packet.number in (65, 66):
+            self.restrict(packet.number, packet.value("NID_TSR"))
         if packet.number in (21, 27):
             self.profiles.add(packet.number)
+        level = level_of(packet, message) if packet.number == 41 else None
+        if self.level and level:
+            self.end("level", "Packet")
         self.level = level or self.level
         super().use(message, packet)
 
+    def restrict(self, packet: int, number: int) -> None:
+        """Applies a packet 65 or 66 of this number."""
+        if number != ALWAYS:
+            if number in self.numbers:
+                self.end("restricted", "Packet")
+            self.numbers.discard(number)
+        if packet == 65:
+            self.numbers.add(number)
+
+    @property
+    def is_waiting(self) -> bool:
+        """Whether national values are announced."""
+        return self.known.line["announced_values_cm"] is not None
+
     def there(self) -> Iterator[str]:
-        """The facts that hold."""
-        known = self.known
-        facts = {"values": known.waiting, "link": known.links, "miss": self.has_missed, "authority": known.authority,
-                 "look": known.authority, "gradients": 21 in self.profiles, "speeds": 27 in self.profiles, "level": self.level,
-                 "restricted": known.restrictions, "areas": known.areas}
+        """The facts that hold, before the mode deletes some."""
+        facts = {"values": "values" in self.facts, "link": self.left, "miss": self.has_missed, "authority": "authority" in self.facts,
+                 "look": "authority" in self.facts, "gradients": 21 in self.profiles, "speeds": 27 in self.profiles, "level": self.level,
+                 "restricted": self.numbers, "areas": "areas" in self.facts}
         return (name for name in coverage_sets.facts() if facts[coverage_sets.known(name, facts, "What ends a fact")])
 
-    def settle(self, record: Json, closed: Sequence[Message], mode: str) -> None:
+    def settle(self, event: Event, closed: Sequence[Message]) -> None:
         """Follows what comes after the effect of an event: values and levels that come into force, the mode, acknowledgements."""
-        waiting = self.known.waiting
+        record, mode, areas = event.record, self.was["mode"], self.known.areas
         entered = record["mode"] if record["mode"] != mode else None
+        super().settle(event, closed)
         came_in = self.come_in(record)
-        asking = {kind: self.asks(kind, record) for kind in ACKNOWLEDGED}
-        if waiting and record["max_safe_front_cm"] >= waiting[0]:
+        areas = (self.known.areas or areas) if "areas" in self.facts else ()
+        asking = {kind: self.asks(kind, record, areas) for kind in ACKNOWLEDGED}
+        if "values" in self.facts and not self.is_waiting:
             self.end("values", "Place")
         if entered:
             self.enter(record, mode, entered)
-        super().settle(record, closed, mode)
         self.acknowledge(record, entered, came_in, asking)
 
     def come_in(self, record: Json) -> int | None:
@@ -307,20 +331,20 @@ class Follow(Walk):
 
     # ---- acknowledgements
 
-    def asks(self, kind: str, record: Json) -> bool:
+    def asks(self, kind: str, record: Json, areas: Sequence[Placed]) -> bool:
         """Whether the train is where an area or an announcement requests an acknowledgement."""
         front = record["max_safe_front_cm"]
-        if kind not in AREA_OF:
+        if kind not in MODE_OF:
             level = self.level
             return bool(level and level.level == 0 and level.place_cm is not None and front >= level.place_cm - level.acknowledged_cm)
-        return any(area.kind == AREA_OF[kind] and (area.end_cm is None or area.end_cm > record["min_safe_front_cm"])
-                   and front >= area.start_cm - area.acknowledged_cm for area in self.known.areas)
+        return any(area.line["area"] == kind and (area.end_cm is None or area.end_cm > record["min_safe_front_cm"])
+                   and front >= area.line["acknowledgement_cm"] for area in areas)
 
     def is_left(self, kind: str, record: Json) -> bool:
         """Whether an area or an announcement of a kind is left."""
-        if kind not in AREA_OF:
+        if kind not in MODE_OF:
             return bool(self.level and self.level.level == 0)
-        return any(area.kind == AREA_OF[kind] and (area.end_cm is None or area.end_cm > record["min_safe_front_cm"])
+        return any(area.line["area"] == kind and (area.end_cm is None or area.end_cm > record["min_safe_front_cm"])
                    for area in self.known.areas)
 
     def happenings(self, kind: str, record: Json, entered: str | None, came_in: int | None, asks: bool) -> Iterator[str]:
@@ -329,7 +353,7 @@ class Follow(Walk):
             yield "acknowledged"
         row = self.row_taken if entered else None
         by_area = row is not None and AREAS.get(kind) in coverage_sets.conditions()[row]
-        if by_area or kind not in AREA_OF and came_in == 0:
+        if by_area or kind not in MODE_OF and came_in == 0:
             yield "entered"
         if asks and record["mode"] != MODE_OF.get(kind):
             yield "requested"
@@ -431,7 +455,7 @@ def power_up_ways(cause: str, was: Json, now: Json) -> Iterator[str]:
 
 def measure(journal: Journal) -> Reached:
     """What the lives of a journal reach that are complete from their power-up on."""
-    reached, driver, kept = Reached(), Driver(), Known()
+    reached, driver, lines = Reached(), Driver(), known_lines(journal.path)
     causes = list(causes_of(journal, rows_of(journal)))
     measure_causes(journal.records, causes, reached)
     lives: dict[int, list[tuple[Json, Causes]]] = {}
@@ -443,16 +467,14 @@ def measure(journal: Journal) -> Reached:
             continue
         reached.add("power-up words", power_up["word"])
         driver.valid.clear()
-        kept = follow(power_up, others, kept, driver, reached)
+        follow(power_up, others, lines, driver, reached)
     return reached
 
 
-def follow(power_up: Json, others: Sequence[tuple[Json, Causes]], kept: Known, driver: Driver, reached: Reached) -> Known:
-    """Follows a life; returns what is known at its end."""
-    walk = Follow(power_up, [Event("", record["place_cm"], record) for record, _ in others],
-                  Known(national=kept.national, train=kept.train), driver, reached)
-    for number, (event, (_, causes)) in enumerate(zip(walk.walked.events, others)):
+def follow(power_up: Json, others: Sequence[tuple[Json, Causes]], lines: Mapping[int, Json], driver: Driver, reached: Reached) -> None:
+    """Follows a life, by the lines of `etcs_lab why --known` of its events."""
+    events = [Event("", record["place_cm"], record, lines.get(record["event"], NOTHING)) for record, _ in others]
+    walk = Follow(power_up, lines.get(power_up["event"], NOTHING), events, driver, reached)
+    for number, (event, (_, causes)) in enumerate(zip(events, others)):
         walk.trip_cause = causes.trip.cause if causes.trip and causes.trip.event == event.record["event"] else None
         walk.event(number, event)
-        walk.walked.known.append(walk.known)
-    return walk.known

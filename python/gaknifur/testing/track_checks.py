@@ -16,8 +16,8 @@ from ..journal.wording import kmh
 from ..simulation.drives import Drive
 from .course import DRIVE, Event
 from .telegrams import WIDTH, packets_in
-from .track_messages import (NATIONAL_SPEED, NEAR_CM, NONE, ONBOARD, ON_SIGHT, SHUNTING, TRIP, Area, Known, Message, National,
-                             Restriction, Train, Walked, rounded_up, speed_of)
+from .track_messages import (NATIONAL_SPEED, NEAR_CM, NONE, ONBOARD, ON_SIGHT, SHUNTING, TRIP, Known, Message, Placed, Walked, rounded_up,
+                             speed_of)
 
 RESTRICTING = (3, 12, 27, 41, 65, 80)
 """Packets that may restrict: if one is lost, something is allowed that it would have forbidden."""
@@ -92,9 +92,9 @@ def margin(limit: int, deceleration: int, reaction_ms: int) -> int:
     return rounded_up(20_000 * limit + 100_000_000, CM_PER_S2 * deceleration) + rounded_up(10_000 * reaction_ms, 36_000)
 
 
-def is_under(start: int, end: int | None, record: Json, length_cm: int) -> bool:
+def is_under(one: Placed, record: Json, length_cm: int) -> bool:
     """Whether a stretch may be under the train."""
-    return start <= record["max_safe_front_cm"] and (end is None or end > record["min_safe_front_cm"] - length_cm)
+    return one.line["start_cm"] <= record["max_safe_front_cm"] and (one.end_cm is None or one.end_cm > record["min_safe_front_cm"] - length_cm)
 
 
 def is_left(end: int | None, record: Json) -> bool:
@@ -203,7 +203,7 @@ def missed_while_it_is_read(judged: Judged) -> Iterator[Finding]:
             continue
         is_by_path = bool(message.unread) or any(read.header["M_DUP"] for read in message.reads)
         way = message.length_cm + (NEAR_CM + longest if is_by_path else 0)
-        uncertainty = message.first.uncertainty_cm(way)
+        uncertainty = message.first.known.uncertainty_cm(way)
         if way <= link.accuracy_cm:
             continue
         closes = f", and without one of its balises closes up to {metres(NEAR_CM + longest)} after the last one" if is_by_path else ""
@@ -232,10 +232,10 @@ def fixes_that_leave_old_places(judged: Judged) -> Iterator[Finding]:
                               f"announce group {message.name}, or lengthen {name} by {metres(before['uncertainty_cm'])}")
 
 
-def places_of(known: Known) -> Iterator[tuple[Restriction | Area, str]]:
+def places_of(known: Known) -> Iterator[tuple[Placed, str]]:
     """Restrictions and areas, with their names."""
-    yield from ((one, f"restriction {one.number}") for one in known.restrictions)
-    yield from ((one, "a Shunting area" if one.kind == SHUNTING else "an On Sight area") for one in known.areas)
+    yield from ((one, f"restriction {one.line['number']}") for one in known.restrictions)
+    yield from ((one, "a Shunting area" if one.line["area"] == SHUNTING else "an On Sight area") for one in known.areas)
 
 
 @item(32)
@@ -245,12 +245,12 @@ def places_that_no_fix_moves(judged: Judged) -> Iterator[Finding]:
         if not (fix.makes_fix and fix.link):
             continue
         record = judged.walked.events[fix.closed].record
-        old = [(one.message, one.pointer, name) for one, name in places_of(fix.before) if is_left(one.end_cm, record)]
+        old = [(one.message, one.packet.pointer, name) for one, name in places_of(fix.before) if is_left(one.end_cm, record)]
         if fix.before.authority and is_left(fix.before.authority[0].place_cm + fix.before.authority[1].end_cm, record):
             old.append((fix.before.authority[0], fix.before.authority[1].pointer, "the authority"))
         for message, pointer, name in old:
             if message.link is None and not message.makes_fix:
-                by = message.first.uncertainty_cm()
+                by = message.first.known.uncertainty_cm()
                 yield Finding(32, pointer, f"group {message.name} isn't announced; {name} that it sends is at an estimate that may be wrong "
                               f"by {metres(by)}, and the fix by group {fix.name} doesn't move it",
                               f"announce group {message.name}, or leave {metres(by)} more before and after it")
@@ -260,14 +260,14 @@ def places_that_no_fix_moves(judged: Judged) -> Iterator[Finding]:
 def rear_that_is_forgotten(judged: Judged) -> Iterator[Finding]:
     """A train longer than 1 km that enters Stand By or Shunting over a restriction."""
     for number, event in enumerate(judged.walked.events):
-        train = judged.walked.known_before(number).train
-        if train is None or train.length_cm <= KM_CM or event.record["mode"] not in ("SB", "SH") \
+        before = judged.walked.known_before(number)
+        if before.train is None or before.train["length_cm"] <= KM_CM or event.record["mode"] not in ("SB", "SH") \
                 or judged.walked.mode_before(number) == event.record["mode"]:
             continue
-        for one in judged.walked.known[number].restrictions:
-            if is_under(one.start_cm, one.end_cm, event.record, train.length_cm):
-                yield Finding(6, event.pointer, f"a train of {metres(train.length_cm)} enters {event.record['mode']} over restriction "
-                              f"{one.number}; restrictions more than 1 km behind its front are forgotten",
+        for one in before.restrictions:
+            if is_under(one, event.record, before.train["length_cm"]):
+                yield Finding(6, event.pointer, f"a train of {metres(before.train['length_cm'])} enters {event.record['mode']} over restriction "
+                              f"{one.line['number']}; restrictions more than 1 km behind its front are forgotten",
                               "let no train longer than 1 km enter SB or SH there")
 
 
@@ -287,29 +287,28 @@ def stop_by_main_speed(judged: Judged) -> Iterator[Finding]:
 def faster_than_meant(judged: Judged) -> Iterator[Finding]:
     """On Sight between two areas; Shunting over a restriction, or with a slow train."""
     for areas in new_areas(judged):
-        for one, other in pairwise(area for area in areas if area.kind == ON_SIGHT):
-            if one.end_cm is not None and other.start_cm > one.end_cm:
-                yield Finding(8, other.pointer, f"between two On Sight areas {metres(other.start_cm - one.end_cm)} are left, from "
+        for one, other in pairwise(area for area in areas if area.line["area"] == ON_SIGHT):
+            if one.end_cm is not None and other.line["start_cm"] > one.end_cm:
+                yield Finding(8, other.packet.pointer, f"between two On Sight areas {metres(other.line['start_cm'] - one.end_cm)} are left, from "
                               f"{metres(one.end_cm)} on, where no speed of an area holds", "lay the areas without a gap")
     for number, event in enumerate(judged.walked.events):
         known = judged.walked.known[number]
         if event.record["mode"] != "SH":
             continue
-        for restriction in known.restrictions:
-            if restriction.speed < known.national.shunting and is_under(restriction.start_cm, restriction.end_cm, event.record, 0):
-                yield Finding(8, restriction.pointer, f"restriction {restriction.number} of {speed(restriction.speed)} is met in Shunting, "
-                              f"where only V_NVSHUNT, {speed(known.national.shunting)}, holds",
-                              f"choose V_NVSHUNT no greater than {speed(restriction.speed)}")
-        if known.train and known.train.maximum < known.national.shunting:
-            yield Finding(8, event.pointer, f"a train with a maximum speed of {speed(known.train.maximum)} runs in Shunting, where V_NVSHUNT, "
-                          f"{speed(known.national.shunting)}, is the only limit", f"choose V_NVSHUNT no greater than {speed(known.train.maximum)}")
+        shunting = known.national["shunting_m_per_h"]
+        for one in known.restrictions:
+            slow = one.line["speed_m_per_h"]
+            if slow < shunting and is_under(one, event.record, 0):
+                yield Finding(8, one.packet.pointer, f"restriction {one.line['number']} of {speed(slow)} is met in Shunting, where only "
+                              f"V_NVSHUNT, {speed(shunting)}, holds", f"choose V_NVSHUNT no greater than {speed(slow)}")
+        if known.train and (slow := known.train["maximum_m_per_h"]) < shunting:
+            yield Finding(8, event.pointer, f"a train with a maximum speed of {speed(slow)} runs in Shunting, where V_NVSHUNT, "
+                          f"{speed(shunting)}, is the only limit", f"choose V_NVSHUNT no greater than {speed(slow)}")
 
 
-def new_areas(judged: Judged) -> Iterator[list[Area]]:
+def new_areas(judged: Judged) -> Iterator[tuple[Placed, ...]]:
     """The areas of each packet 80 that was used."""
-    for number, known in enumerate(judged.walked.known):
-        if known.areas and known.areas != judged.walked.known_before(number).areas:
-            yield list(known.areas)
+    return (known.areas for number, known in enumerate(judged.walked.known) if known.areas != judged.walked.known_before(number).areas)
 
 
 @item(35)
@@ -318,11 +317,12 @@ def shunting_area_speed(judged: Judged) -> Iterator[Finding]:
     for number, known in enumerate(judged.walked.known):
         if known.areas == judged.walked.known_before(number).areas:
             continue
+        shunting = known.national["shunting_m_per_h"]
         for area in known.areas:
-            if area.kind == SHUNTING and area.speed is not None and area.speed < known.national.shunting:
-                yield Finding(35, area.pointer, f"the Shunting area at {metres(area.start_cm)} has V_MAMODE {speed(area.speed)}, which "
-                              f"counts only ahead of it; in it V_NVSHUNT, {speed(known.national.shunting)}, holds",
-                              "give no V_MAMODE below V_NVSHUNT")
+            slow = area.line["speed_m_per_h"]
+            if area.line["area"] == SHUNTING and slow is not None and slow < shunting:
+                yield Finding(35, area.packet.pointer, f"the Shunting area at {metres(area.line['start_cm'])} has V_MAMODE {speed(slow)}, which "
+                              f"counts only ahead of it; in it V_NVSHUNT, {speed(shunting)}, holds", "give no V_MAMODE below V_NVSHUNT")
 
 
 @item(9)
@@ -343,13 +343,13 @@ def area_in_place_of_another(judged: Judged) -> Iterator[Finding]:
         if before == now or not now:
             continue
         for kind, name in ((ON_SIGHT, "On Sight"), (SHUNTING, "Shunting")):
-            acknowledged = [area for area in before if area.kind == kind and is_left(area.end_cm, event.record)
-                     and event.record["max_safe_front_cm"] >= area.start_cm - area.acknowledged_cm]
-            new = [area for area in now if area.kind == kind and (area.start_cm, area.end_cm) not in {
-                (one.start_cm, one.end_cm) for one in acknowledged}]
+            acknowledged = [area for area in before if area.line["area"] == kind and is_left(area.end_cm, event.record)
+                            and event.record["max_safe_front_cm"] >= area.line["acknowledgement_cm"]]
+            new = [area for area in now if area.line["area"] == kind and (area.line["start_cm"], area.end_cm) not in {
+                (one.line["start_cm"], one.end_cm) for one in acknowledged}]
             if acknowledged and new:
-                yield Finding(10, new[0].pointer, f"the {name} area at {metres(new[0].start_cm)} replaces the one at "
-                              f"{metres(acknowledged[0].start_cm)}, which the driver may have acknowledged; he isn't asked again",
+                yield Finding(10, new[0].packet.pointer, f"the {name} area at {metres(new[0].line['start_cm'])} replaces the one at "
+                              f"{metres(acknowledged[0].line['start_cm'])}, which the driver may have acknowledged; he isn't asked again",
                               f"let no packet 80 put another {name} area there")
 
 
@@ -357,11 +357,12 @@ def area_in_place_of_another(judged: Judged) -> Iterator[Finding]:
 def transitions_in_a_row(judged: Judged) -> Iterator[Finding]:
     """On Sight areas that follow one another within 5 s."""
     for areas in new_areas(judged):
-        for one, other in pairwise(area for area in areas if area.kind == ON_SIGHT):
-            fast = one.speed if one.speed is not None else 30_000
+        for one, other in pairwise(area for area in areas if area.line["area"] == ON_SIGHT):
+            fast = 30_000 if one.line["speed_m_per_h"] is None else one.line["speed_m_per_h"]
+            start, apart = other.line["start_cm"], other.line["start_cm"] - one.line["start_cm"]
             way = fast * ACKNOWLEDGED_WITHIN_S // 36
-            if one.end_cm is not None and one.end_cm < other.start_cm and other.start_cm - one.start_cm <= way:
-                yield Finding(11, other.pointer, f"two On Sight areas begin {metres(other.start_cm - one.start_cm)} apart, which take at most "
+            if one.end_cm is not None and one.end_cm < start and apart <= way:
+                yield Finding(11, other.packet.pointer, f"two On Sight areas begin {metres(apart)} apart, which take at most "
                               f"5 s at {speed(fast)}; the second transition delays the brake of the first",
                               f"keep them more than {metres(way)} apart, or lay them without a gap")
 
@@ -385,42 +386,43 @@ def nothing_ahead_is_braked_for(judged: Judged) -> Iterator[Finding]:
         before, known = judged.walked.events[number - 1].record, judged.walked.known_before(number)
         limit = before["limit_m_per_h"]
         for one in known.restrictions:
-            is_met = before["max_safe_front_cm"] < one.start_cm <= event.record["max_safe_front_cm"]
-            if not is_met or limit - one.speed <= MARGIN_M_PER_H or before["mode"] != event.record["mode"] or known.train is None:
+            start, slow = one.line["start_cm"], one.line["speed_m_per_h"]
+            is_met = before["max_safe_front_cm"] < start <= event.record["max_safe_front_cm"]
+            if not is_met or limit - slow <= MARGIN_M_PER_H or before["mode"] != event.record["mode"] or known.train is None:
                 continue
-            way = way_to_slow(limit + EMERGENCY_M_PER_H, one.speed, known.train.deceleration, known.train.reaction_ms)
-            yield Finding(33, one.pointer, f"restriction {one.number} at {metres(one.start_cm)} is met in {event.record['mode']}, where the limit "
-                          f"falls from {speed(limit)} to {speed(one.speed)} within 1 cm and nothing brakes before; from "
+            way = way_to_slow(limit + EMERGENCY_M_PER_H, slow, known.train["deceleration_cm_per_s2"], known.train["reaction_ms"])
+            yield Finding(33, one.packet.pointer, f"restriction {one.line['number']} at {metres(start)} is met in {event.record['mode']}, where the "
+                          f"limit falls from {speed(limit)} to {speed(slow)} within 1 cm and nothing brakes before; from "
                           f"{speed(limit + EMERGENCY_M_PER_H)} the train needs {metres(way)}",
                           f"begin it {metres(way)} earlier, or let the speed fall by at most {speed(MARGIN_M_PER_H)} at once")
 
 
 # ---- ends of authority
 
-def beyond_the_end(packet: Packet, national: National) -> dict[str, tuple[int, int]]:
+def beyond_the_end(packet: Packet, national: Json) -> dict[str, tuple[int, int]]:
     """The distance of danger point and overlap beyond the end, and their release speeds (0 if there is none)."""
     found: dict[str, tuple[int, int]] = {}
     for name, distance, release in (("danger point", "D_DP", "V_RELEASEDP"), ("overlap", "D_OL", "V_RELEASEOL")):
         way, fast = packet.get(distance), packet.get(release)
         if way is not None and fast is not None:
-            found[name] = packet.cm(way), {ONBOARD: 0, NATIONAL_SPEED: national.release}.get(fast, speed_of(fast))
+            found[name] = packet.cm(way), {ONBOARD: 0, NATIONAL_SPEED: national["release_m_per_h"]}.get(fast, speed_of(fast))
     return found
 
 
-def greatest_limit(message: Message, packet: Packet, train: Train) -> int:
+def greatest_limit(message: Message, packet: Packet, train: Json) -> int:
     """The greatest limit that an authority allows."""
     static = [speed_of(steps) for one in message.packets if one.number == 27 for steps in one.all("V_STATIC")]
-    return min([train.maximum, *([speed_of(packet.value("V_MAIN"))] if packet.value("V_MAIN") else []), *([max(static)] if static else [])])
+    return min([int(train["maximum_m_per_h"]), *([speed_of(packet.value("V_MAIN"))] if packet.value("V_MAIN") else []), *([max(static)] if static else [])])
 
 
-def least_deceleration(message: Message, train: Train) -> int:
+def least_deceleration(message: Message, train: Json) -> int:
     """The deceleration of the train on the steepest downhill gradient of a message."""
     gradients = [element["G_A"] if element["Q_GDIR"] else -element["G_A"] for one in message.packets if one.number == 21
                  for element in one.elements("D_GRADIENT") if element["G_A"] != UNKNOWN_GRADIENT]
-    return train.deceleration + min(981 * gradient // 1000 for gradient in gradients or [0])
+    return int(train["deceleration_cm_per_s2"]) + min(981 * gradient // 1000 for gradient in gradients or [0])
 
 
-def train_at(judged: Judged, message: Message) -> Train | None:
+def train_at(judged: Judged, message: Message) -> Json | None:
     """The train data for an authority: the valid ones, or those that are entered next."""
     later = (known.train for known in judged.walked.known[message.closed:] if known.train)
     return message.before.train or next(later, None)
@@ -435,10 +437,10 @@ def ends_and_margins(judged: Judged) -> Iterator[Finding]:
             continue
         limit, least = greatest_limit(message, packet, train), least_deceleration(message, train)
         for name, (distance, _) in beyond_the_end(packet, message.before.national).items():
-            needed = margin(limit, least, train.reaction_ms) if least > 0 else None
+            needed = margin(limit, least, train["reaction_ms"]) if least > 0 else None
             if needed is None or distance < needed:
                 yield Finding(14, packet.pointer, f"the {name} of group {message.name} is {metres(distance)} beyond the end of authority; from "
-                              f"{speed(limit)} with {max(least, 0)} cm/s2 and {train.reaction_ms} ms a braked train overruns by "
+                              f"{speed(limit)} with {max(least, 0)} cm/s2 and {train['reaction_ms']} ms a braked train overruns by "
                               f"{metres(needed) if needed is not None else 'any distance'}",
                               f"put the end at least {metres(needed)} before the danger" if needed is not None else
                               "let no such train run there")
@@ -490,7 +492,7 @@ def creeping_past_the_end(judged: Judged) -> Iterator[Finding]:
         if train is None or least <= 0 or not beyond:
             continue
         uncertainty = uncertainty_at(message, packet, judged.walked.known[message.closed].links)
-        needed = 2 * uncertainty + way_to_slow(EMERGENCY_M_PER_H, 0, least, train.reaction_ms)
+        needed = 2 * uncertainty + way_to_slow(EMERGENCY_M_PER_H, 0, least, train["reaction_ms"])
         for name, (distance, _) in beyond.items():
             if distance < needed:
                 yield Finding(16, packet.pointer, f"the {name} of group {message.name} is {metres(distance)} beyond the end of authority, where "
@@ -518,9 +520,9 @@ def slope_under_the_rear(judged: Judged) -> Iterator[Finding]:
             gradients = gradients_of(packet) if packet.number == 21 else []
             for before, here, beyond in zip(gradients, gradients[1:], gradients[2:]):
                 way = beyond[0] - here[0]
-                if train and before[1] > here[1] < beyond[1] and way < train.length_cm:
+                if train and before[1] > here[1] < beyond[1] and way < train["length_cm"]:
                     yield Finding(38, packet.pointer, f"group {message.name} sends {here[1]} per mille over {metres(way)}, from {metres(here[0])} "
-                                  f"after it on, and {beyond[1]} beyond; a train of {metres(train.length_cm)} is still on it there",
+                                  f"after it on, and {beyond[1]} beyond; a train of {metres(train['length_cm'])} is still on it there",
                                   "send for each place the lowest gradient from there back over the train's length")
 
 
@@ -674,7 +676,7 @@ def refused_telegrams(judged: Judged) -> Iterator[Finding]:
 def country_without_values(judged: Judged) -> Iterator[Finding]:
     """A group of a country that no packet 3 lists."""
     for message in judged.walked.messages:
-        countries = message.before.national.countries
+        countries = message.before.line["countries"]
         if message.is_used and countries and message.group[0] not in countries and not any(
                 packet.number == 3 for packet in message.packets):
             yield Finding(41, message.pointer, f"group {message.name} is of country {message.group[0]}, and the values in force are for "
@@ -691,12 +693,12 @@ def train_data_and_train(judged: Judged) -> Iterator[Finding]:
     train, entered = judged.drive.train, trains[-1]
     grip = min((share for share, _, _ in train.adhesion), default=Decimal(1))
     brakes = int(min(train.service or train.emergency, train.emergency) * grip)
-    if entered.deceleration > brakes:
-        yield Finding(27, DRIVE, f"the train data have {entered.deceleration} cm/s2, and the train brakes with {brakes}",
+    if entered["deceleration_cm_per_s2"] > brakes:
+        yield Finding(27, DRIVE, f"the train data have {entered['deceleration_cm_per_s2']} cm/s2, and the train brakes with {brakes}",
                       "enter the least deceleration of the train")
     late = train.reaction_ms + train.build_up_ms
-    if entered.reaction_ms < late:
-        yield Finding(27, DRIVE, f"the train data have a reaction time of {entered.reaction_ms} ms, and the train has {train.reaction_ms} ms and "
+    if entered["reaction_ms"] < late:
+        yield Finding(27, DRIVE, f"the train data have a reaction time of {entered['reaction_ms']} ms, and the train has {train.reaction_ms} ms and "
                       f"builds up its brakes within {train.build_up_ms} ms", f"enter {late} ms")
 
 

@@ -11,4 +11,5 @@ returns c =
     let first = c.with_arg-first.ensures _ _ new c.json_arg.ensures in
     let second = c.with_arg-second.ensures _ _ first c.slots_arg.ensures in
     let third = c.with_arg-third.ensures _ _ second c.image_arg.ensures in
-    c.with_arg.ensures _ _ third c.event_arg.ensures
+    let fourth = c.with_arg-fourth.ensures _ _ third c.event_arg.ensures in
+    c.with_arg.ensures _ _ fourth c.known_arg.ensures

@@ -16,7 +16,8 @@ returns-then-has_line c = λ story is.
     let demands = c.in_ok-demands.demands in
     let are = subst (λ (mode : Mode). AreDemands entry.event mode before (groups_of story) demands) reported.mode_is
     (subst (λ (gs : List GroupLine). AreDemands entry.event c.groups-closed.result.now.mode before gs demands) groups c.in_ok-demands.ensures) in
-    let line = c.event_line-line.ensures story is ∙ ap (λ (gs : List GroupLine). event_line story entry.number c.args.explanation.now gs demands) groups in
+    let known = c.in_ok-known.ensures story is in
+    let line = c.event_line-line.ensures story is ∙ (λ i. event_line story entry.number c.args.explanation.now (groups i) demands (known i)) in
     (demands, are, inl (c.has_line.ensures.some c.if-has_line.true, c.saturating_add.ensures, ap (λ (l : WhyLine). Some l) line))
 
 pub returns : goal.returns

@@ -38,6 +38,7 @@ LEAST_OBJECTS, LEAST_TABLES = 20_000, 29
 LIVES = 9  # of a journal that other units are asked about: more than an answer has members
 LIMITS = "2^40 cm take more events than an image holds"
 NEVER = {  # what never occurs here, and why
+    ("announced-level", "start_cm", "null"): "such a level comes into force in the event that announces it",
     ("balise-group", "mode", "SF"): LIMITS,
     ("causes", "in_system_failure", "number"): LIMITS,
     ("causes", "limit_cause", "no_train_data"): "both modes that supervise by train data are entered with valid ones, and keep them",
@@ -227,9 +228,11 @@ def all_read(reference, program, room):
     for _, image, *_ in [*why_rows.by_hand(), *islice(why_rows.more_lives(), 10)]:
         file.write_bytes(image)
         read(reference, program, "why", "--json", file)
+        read(reference, program, "why", "--json", "--known", file)
     for _, image, asked, _ in [*why_rows.groups_by_hand(), *why_rows.demands_by_hand()]:
         file.write_bytes(image)
         read(reference, program, "why", "--json", file, str(asked))
+        read(reference, program, "why", "--json", "--known", file)
     for path in sorted([*TOP.glob("tests/programs/*.json"), *TOP.glob("examples/*/*.json")]):
         read(reference, program, "run", path)
         read(reference, program, "lint", "--json", path)

@@ -2,11 +2,7 @@
 import os
 import pickle
 import signal
-import threading
-import time
 import unittest
-from concurrent.futures import ProcessPoolExecutor
-from concurrent.futures.process import BrokenProcessPool
 
 from gaknifur import processes
 from gaknifur.program import Failed
@@ -54,25 +50,6 @@ class Shared(unittest.TestCase):
     def test_a_killed_process(self) -> None:
         with self.assertRaisesRegex(Failed, "a process was killed"):
             list(processes.each(lambda part: os.kill(os.getpid(), signal.SIGKILL) if part == 3 else part, range(20), 2))
-
-    def test_killed_while_a_part_is_written(self) -> None:
-        """A process is killed while a thread writes a part for it that is larger than a pipe: that thread ends, as do all others."""
-        before = set(threading.enumerate())
-        pool = ProcessPoolExecutor(1)
-        slow = pool.submit(time.sleep, 60)
-        while not slow.running():
-            time.sleep(0.01)
-        for _ in range(3):
-            pool.submit(len, bytes(1 << 20))
-        time.sleep(0.5)
-        for process in list(pool._processes.values()):
-            process.kill()
-        with self.assertRaises(BrokenProcessPool):
-            slow.result(30)
-        processes.give_up(pool)
-        for thread in set(threading.enumerate()) - before:
-            thread.join(30)
-            self.assertFalse(thread.is_alive(), thread)
 
     def test_what_is_missed_can_be_sent(self) -> None:
         missed = pickle.loads(pickle.dumps(Missed("this", "that")))

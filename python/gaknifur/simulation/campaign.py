@@ -19,7 +19,6 @@ from typing import Any
 
 from ..escaping import shown
 from ..playing import Died
-from ..processes import give_up
 from ..testing import case_files
 
 Row = dict[str, Any]
@@ -202,7 +201,6 @@ def here(jobs: Iterable[Job], count: int, workers: int, take: Take) -> int:
         while True:
             is_broken = not hand_out(left, running, pool, workers)
             if not running and not is_broken:
-                pool.shutdown()  # and waits, since Python's exit may otherwise use a pipe that this closes
                 return left.lost_batches
             broken: list[list[Job]] = []
             for done in wait(running, return_when=FIRST_COMPLETED).done:
@@ -218,7 +216,7 @@ def here(jobs: Iterable[Job], count: int, workers: int, take: Take) -> int:
             if is_broken or broken:
                 broken += running.values()
                 running.clear()
-                give_up(pool)
+                pool.shutdown(wait=False)
                 pool = ProcessPoolExecutor(workers, initializer=gc.freeze)
                 for batch in broken:
                     take(left.lose(batch, left.alone))

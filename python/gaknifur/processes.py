@@ -1,5 +1,6 @@
 """Share work among processes of this machine."""
 import multiprocessing
+import os
 from collections.abc import Callable, Iterable, Iterator, Sequence
 from concurrent.futures import Future, ProcessPoolExecutor
 from concurrent.futures.process import BrokenProcessPool
@@ -41,6 +42,20 @@ def each(does: Callable[[Part], Result], parts: Iterable[Part], jobs: int) -> It
         finally:
             for one in running:
                 one.cancel()
+
+
+def give_up(pool: ProcessPoolExecutor) -> None:
+    """Ends a pool that lost a process, and waits until its threads have ended. One of them may be writing a part that no process reads any more,
+    and would wait for ever (gh-94777, mended in Python 3.11.6). So what it writes is read here."""
+    manager, queue = getattr(pool, "_executor_manager_thread", None), getattr(pool, "_call_queue", None)
+    pool.shutdown(wait=False)
+    while manager is not None and queue is not None and manager.is_alive():
+        try:
+            if queue._reader.poll(0.02):
+                os.set_blocking(queue._reader.fileno(), False)
+                os.read(queue._reader.fileno(), 1 << 16)
+        except (OSError, ValueError):  # its thread has closed it, or a process that is about to end was faster
+            manager.join(0.02)
 
 
 def do(part: Any) -> Any:

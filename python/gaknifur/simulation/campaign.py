@@ -19,6 +19,7 @@ from typing import Any
 
 from ..escaping import shown
 from ..playing import Died
+from ..processes import give_up
 from ..testing import case_files
 
 Row = dict[str, Any]
@@ -216,7 +217,7 @@ def here(jobs: Iterable[Job], count: int, workers: int, take: Take) -> int:
             if is_broken or broken:
                 broken += running.values()
                 running.clear()
-                pool.shutdown(wait=False)
+                give_up(pool)
                 pool = ProcessPoolExecutor(workers, initializer=gc.freeze)
                 for batch in broken:
                     take(left.lose(batch, left.alone))

@@ -3,4 +3,5 @@ pub mod Laws
 pub mod Over
 pub mod Targets
 pub mod Supervised
+pub mod Steady
 pub mod Causes

@@ -11,6 +11,7 @@ mod laws;
 mod over;
 mod permitted;
 mod release;
+mod steady;
 mod supervised;
 
 pub use by_mode::{limit, values};
@@ -19,4 +20,5 @@ pub use cause_by_mode::limit_cause;
 pub use laws::limit_is_within_maximum;
 pub use over::{over_train, restriction_over};
 pub use permitted::{along, bounds};
+pub use steady::SteadyLimit;
 pub use supervised::supervised_cause;

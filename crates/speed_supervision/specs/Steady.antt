@@ -1,0 +1,34 @@
+-- A limit that stays the same while the train moves on within a window (this project's profile; SUBSET-026, 3.11 and
+-- 3.13). Places are centimetres, speeds metres per hour.
+use Rattle.std.specs.Prelude.{◌≡◌, ℕ, ◌≤ℤ◌}
+use Rattle.units.specs.Stretches.{Span}
+use Rattle.track_picture.specs.History.{gradients_of}
+use Rattle.mode_control.specs.History.{tracks}
+use Rattle.mode_control.specs.Life.{Life}
+use Rattle.speed_supervision.specs.declared.steady.SteadyLimit.{SteadyLimit}
+use Rattle.speed_supervision.specs.Limit.{along}
+use Rattle.speed_supervision.specs.Supervised.{permitted_on}
+use Rattle.speed_supervision.specs.Targets.{Journey}
+
+-- a stretch covers another one, and its front may be wherever that of the other one may be
+abbrev pub Covers : Span → Span → Type 0
+Covers wide narrow = (wide.rear ≤ℤ narrow.rear) × (wide.min_front ≤ℤ narrow.min_front) × (narrow.max_front ≤ℤ wide.max_front)
+
+-- a train is within the window
+abbrev pub IsWithin : SteadyLimit → Span → Type 0
+IsWithin steady train = Covers steady.widest train × Covers train steady.narrowest
+
+-- the journey of a train that is somewhere on the track of a life, with the bounds, brakes and national speeds for which
+-- the limit is steady
+abbrev pub journey_of : SteadyLimit → Life → Span → Journey
+journey_of steady life train = record {
+  front = train.max_front;
+  bounds = steady.bounds;
+  track = record (along life) { national = steady.national };
+  gradient = (gradients_of (tracks life.entries)).value;
+  brakes = steady.brakes;
+}
+
+-- wherever the train is within the window, its permitted speed is this limit, whatever the national release speed is
+abbrev pub IsSteady : SteadyLimit → Life → Type 0
+IsSteady steady life = (train : Span) (national : ℕ) → IsWithin steady train → permitted_on train (journey_of steady life train) national ≡ steady.limit

@@ -6,3 +6,4 @@ pub mod Preceding
 pub mod Deciding
 pub mod Releasing
 pub mod Overriding
+pub mod Remaining

@@ -32,3 +32,9 @@ journey_of steady life train = record {
 -- wherever the train is within the window, its permitted speed is this limit, whatever the national release speed is
 abbrev pub IsSteady : SteadyLimit → Life → Type 0
 IsSteady steady life = (train : Span) (national : ℕ) → IsWithin steady train → permitted_on train (journey_of steady life train) national ≡ steady.limit
+
+-- wherever a train on a journey is between two stretches, its permitted speed is a limit
+abbrev pub HoldsBetween : Span → Span → Journey → ℕ → Type 0
+HoldsBetween widest narrowest journey limit =
+    (train : Span) (national : ℕ) → Covers widest train → Covers train narrowest →
+    permitted_on train (record journey { front = train.max_front }) national ≡ limit

@@ -4,15 +4,18 @@
 #![tactic(auto)]
 
 mod ahead;
+mod alike;
 mod by_mode;
 mod cause;
 mod cause_by_mode;
+mod holding;
 mod laws;
 mod over;
 mod permitted;
 mod release;
 mod steady;
 mod supervised;
+mod window;
 
 pub use by_mode::{limit, values};
 pub use cause::{LimitCause, NationalValue, OverTrain, SpeedCause, TargetAhead, TargetKind};

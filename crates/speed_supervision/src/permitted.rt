@@ -29,8 +29,8 @@ pub fn bounds<T: ProfileStores>(supervision: &SupervisionOver<T>, train: &TrainD
     }
 }
 
-// The national values for the speeds in areas.
-fn in_areas(values: &Values) -> NationalSpeeds
+/// The national values for the speeds in areas.
+pub(crate) fn in_areas(values: &Values) -> NationalSpeeds
     ensures { result ≡ in_areas values.now }
 {
     NationalSpeeds {

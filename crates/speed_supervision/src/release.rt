@@ -32,7 +32,8 @@ pub fn released_by<S: Profile<CategorySpeeds>, G: Profile<Permille>>(
     to_end.max(to_location.min(release_speed(end.release, national)))
 }
 
-fn target(place: Cm, speed: Mph) -> Target
+/// A target.
+pub fn target(place: Cm, speed: Mph) -> Target
     ensures { result ≡ record { place = place; speed = speed } }
 {
     Target { place, speed }

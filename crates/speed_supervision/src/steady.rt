@@ -1,18 +1,26 @@
 //! A limit that stays the same while the train moves on within a window, so that most readings need not seek it again.
-ghost use Rattle.std.specs.Prelude.{◌≡◌, ◌≤ℤ◌, IfSome};
+ghost use Rattle.std.specs.Prelude.{◌≡◌, pos, ◌-ℤ◌, ◌≤ℤ◌, IsTrue, IfSome};
+ghost use Rattle.driver.specs.declared.datum.Datum.TheVariants.{Valid};
 ghost use Rattle.mode_control.specs.Life.{Life};
-ghost use Rattle.mode_control.specs.Sentences.{span_of};
+ghost use Rattle.mode_control.specs.Sentences.{values_of, span_of};
 ghost use Rattle.mode_control.specs.StandsFor.{StandsForLife};
-ghost use Rattle.speed_supervision.specs.Limit.{limit};
-ghost use Rattle.speed_supervision.specs.Steady.{IsSteady};
+ghost use Rattle.speed_supervision.specs.Limit.{bounds_of, in_areas, permitted_speed, limit};
+ghost use Rattle.speed_supervision.specs.Steady.{IsWithin, IsSteady};
 ghost use Rattle.track_picture.specs.Sentences.{forgetting_mark};
 
+use crate::alike::{are_same_bounds, are_same_brakes, are_same_speeds};
+use crate::by_mode::values;
+use crate::holding::limit_between;
+use crate::permitted::{along, bounds, in_areas};
+use crate::window::window;
 use areas::NationalSpeeds;
 use braking::Brakes;
+use driver::{Datum, TrainData};
 use mode_control::SupervisionOver;
-use speed_profile::Bounds;
+use mode_table::Mode;
+use speed_profile::{Ahead, Bounds};
 use track_picture::ProfileStores;
-use units::{Mph, Stretch};
+use units::{Cm, Mph, Stretch};
 
 /// A limit in Full Supervision or On Sight that holds wherever the train is within a window, while its bounds, its brakes
 /// and the national speeds are these and the track isn't reported anew (this project's profile).
@@ -39,7 +47,8 @@ impl SteadyLimit {
         ensures steady { (life : Life) → StandsForLife T.stores supervision.now life → IfSome result (λ steady. IsSteady steady life) }
         ensures limit { (life : Life) → StandsForLife T.stores supervision.now life → IfSome result (λ steady. steady.limit ≡ limit life) }
     {
-        None
+        let train = supervised_train(supervision)?;
+        find_for(supervision, &train)
     }
 
     /// The limit, where the train is within the window and all else that it holds for is the same. The caller owes a track
@@ -50,6 +59,110 @@ impl SteadyLimit {
         ensures near { (life : Life) → StandsForLife T.stores supervision.now life
             → IfSome result (λ speed. forgetting_mark (span_of life) ≤ℤ self.now.widest.rear) }
     {
-        None
+        if !self.is_about(&supervision.stretch()) {
+            return None;
+        }
+        let train = supervised_train(supervision)?;
+        if self.is_for(supervision, &train) {
+            Some(self.limit)
+        } else {
+            None
+        }
     }
+
+    // Whether a train is within the window, and what is forgotten of the track lies no farther on than the window.
+    fn is_about(&self, train: &Stretch) -> bool
+        ensures within { IsTrue result → IsWithin self.now train.now }
+        ensures near { IsTrue result → forgetting_mark train.now ≤ℤ self.now.widest.rear }
+    {
+        is_between(
+            train.max_front(),
+            self.narrowest.max_front(),
+            self.widest.max_front(),
+        ) && is_between(train.rear(), self.widest.rear(), self.narrowest.rear())
+            && is_between(
+                train.min_front(),
+                self.widest.min_front(),
+                self.narrowest.min_front(),
+            )
+            && is_near(train.rear(), self.widest.rear())
+    }
+
+    // Whether it holds for the bounds and brakes of a train, and for the national speeds.
+    fn is_for<T: ProfileStores>(&self, supervision: &SupervisionOver<T>, train: &TrainData) -> bool
+        ensures bounds { (life : Life) → StandsForLife T.stores supervision.now life → IsTrue result → self.now.bounds ≡ bounds_of life train.now }
+        ensures brakes { IsTrue result → self.now.brakes ≡ train.now.brakes }
+        ensures national { (life : Life) → StandsForLife T.stores supervision.now life → IsTrue result → self.now.national ≡ in_areas (values_of life) }
+    {
+        are_same_brakes(&self.brakes, &train.brakes())
+            && are_same_speeds(&self.national, &in_areas(values(supervision)))
+            && are_same_bounds(&self.bounds, &bounds(supervision, train))
+    }
+}
+
+fn is_between(place: Cm, first: Cm, last: Cm) -> bool
+    ensures first { IsTrue result → first ≤ℤ place }
+    ensures last { IsTrue result → place ≤ℤ last }
+{
+    first <= place && place <= last
+}
+
+// Whether a place lies no farther than 1 km on from a first one.
+fn is_near(place: Cm, first: Cm) -> bool
+    ensures { IsTrue result → (place -ℤ pos 100_000) ≤ℤ first }
+{
+    place.get() - 100_000 <= first.get()
+}
+
+// The train whose permitted speed is the limit: in Full Supervision and On Sight, where its data are valid.
+fn supervised_train<T: ProfileStores>(supervision: &SupervisionOver<T>) -> Option<TrainData>
+    ensures { (life : Life) → StandsForLife T.stores supervision.now life → IfSome result (λ train. permitted_speed life train ≡ limit life) }
+{
+    match supervision.mode() {
+        Mode::FullSupervision | Mode::OnSight => valid_train(&supervision.driver().train_data()),
+        _ => None,
+    }
+}
+
+// The data of a train that are valid.
+fn valid_train(train: &Datum<TrainData>) -> Option<TrainData>
+    ensures { IfSome result (λ valid. train.now ≡ Valid valid) }
+{
+    match train {
+        Datum::Valid(train) => Some(*train),
+        Datum::Unknown | Datum::Invalid(_) => None,
+    }
+}
+
+// The same for a train.
+fn find_for<T: ProfileStores>(
+    supervision: &SupervisionOver<T>,
+    train: &TrainData,
+) -> Option<SteadyLimit>
+    ensures steady { (life : Life) → StandsForLife T.stores supervision.now life → IfSome result (λ steady. IsSteady steady life) }
+    ensures limit { (life : Life) → StandsForLife T.stores supervision.now life
+        → IfSome result (λ steady. steady.limit ≡ permitted_speed life train.now) }
+{
+    let here = supervision.stretch();
+    let both = window(&here, supervision.track().speed())?;
+    let (widest, narrowest) = both;
+    let bounds = bounds(supervision, train);
+    let track = along(supervision);
+    let brakes = train.brakes();
+    let ahead = Ahead {
+        front: narrowest.max_front(),
+        bounds: &bounds,
+        track: &track,
+        gradient: supervision.track().gradients(),
+        brakes: &brakes,
+    };
+    let limit = limit_between(&widest, &narrowest, &ahead)?;
+    Some(SteadyLimit {
+        limit,
+        widest,
+        narrowest,
+        bounds,
+        brakes,
+        national: track.national,
+    })
 }

@@ -144,8 +144,8 @@ fn find_for<T: ProfileStores>(
         → IfSome result (λ steady. steady.limit ≡ permitted_speed life train.now) }
 {
     let here = supervision.stretch();
-    let both = window(&here, supervision.track().speed())?;
-    let (widest, narrowest) = both;
+    let stretches = window(&here, supervision.track().speed())?;
+    let (widest, narrowest) = stretches;
     let bounds = bounds(supervision, train);
     let track = along(supervision);
     let brakes = train.brakes();

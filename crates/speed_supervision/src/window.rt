@@ -7,9 +7,9 @@ use units::{Cm, Mph, Stretch};
 /// The most and the least that a train may cover while it runs 10 metres and four seconds' way on from where it is; None
 /// outside the limits of places. The front may be at the same place in both.
 pub fn window(here: &Stretch, speed: Mph) -> Option<(Stretch, Stretch)>
-    ensures widest { IfSome result (λ both. Covers both.0 here.now) }
-    ensures narrowest { IfSome result (λ both. Covers here.now both.1) }
-    ensures front { IfSome result (λ both. both.1.max_front ≡ here.now.max_front) }
+    ensures widest { IfSome result (λ stretches. Covers stretches.0 here.now) }
+    ensures narrowest { IfSome result (λ stretches. Covers here.now stretches.1) }
+    ensures front { IfSome result (λ stretches. stretches.1.max_front ≡ here.now.max_front) }
 {
     let way = way_on(speed)?;
     let front = here.max_front();

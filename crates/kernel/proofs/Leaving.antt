@@ -56,6 +56,7 @@ module _ {G S : Type 0} {stores : Stores G S} {known : Knowledge G S} where
       record {
         parts_are = s.parts_are ∙ is.0;
         supervision_is = record { parts_are = s.supervision_is.parts_are ∙ is.1; track_is = s.supervision_is.track_is };
+        carried_is = s.carried_is;
       }
 
   from_left : (recorded_cold : Cold) (kept : Kept) → StandsForLife stores known (initial_life (left_by recorded_cold kept) recorded_cold) →
@@ -65,6 +66,7 @@ module _ {G S : Type 0} {stores : Stores G S} {known : Knowledge G S} where
       record {
         parts_are = s.parts_are ∙ sym is.0;
         supervision_is = record { parts_are = s.supervision_is.parts_are ∙ sym is.1; track_is = s.supervision_is.track_is };
+        carried_is = s.carried_is;
       }
 
   -- where the same is left of both, what stands for the one life stands for the other

@@ -3,6 +3,7 @@ pub mod Lives
 pub mod Brake
 pub mod Causes
 pub mod Output
+pub mod Carrying
 pub mod StandsFor
 pub mod Laws
 pub mod Quiet

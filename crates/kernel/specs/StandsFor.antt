@@ -16,10 +16,12 @@ use Rattle.mode_control.specs.History.{tracks}
 use Rattle.mode_control.specs.Life.{Life, grown}
 use Rattle.mode_control.specs.StandsFor as mode_control
 use Rattle.track_picture.specs.Stores.{Stores}
+use Rattle.kernel.specs.declared.carried.Carried.{Carried}
 use Rattle.kernel.specs.declared.counts.Counts.{Counts}
 use Rattle.kernel.specs.declared.sight.Sight.{Sight}
 use Rattle.kernel.specs.declared.window.Window.{Window}
 use Rattle.kernel.specs.Brake.{stands, train_stood, was_within_limit, is_above_limit_by, service_brake_requested, backward_at, rolled_backward, has_started}
+use Rattle.kernel.specs.Carrying.{IsCarried}
 use Rattle.kernel.specs.Lives.{Past, kept_of, counts_of, counts_in, life_of}
 use Rattle.kernel.specs.Position.{position_at_power_up}
 
@@ -70,16 +72,19 @@ pub record Knowledge (G S : Type 0) : Type 0 where
   pub parts : KnownAlongside
   pub counts : Counts
   pub supervision : mode_control.Knowledge G S
+  pub carried : Carried
 
 -- It represents a life; what the two stores give is read off them so
 pub record StandsForLife {G S : Type 0} (stores : Stores G S) (known : Knowledge G S) (life : Life) : Type 0 where
   pub parts_are : known.parts ≡ parts_of life
   pub supervision_is : mode_control.StandsForLife stores known.supervision life
+  pub carried_is : IsCarried known.carried life
 
 -- before its power-up nothing is known of a life but what was kept; it isn't counted yet
 pub record WaitsFor {G S : Type 0} (stores : Stores G S) (known : Knowledge G S) (kept : Kept) (cold : Cold) : Type 0 where
   pub life_is : StandsForLife stores known (record { kept = kept; cold = cold; entries = [] })
   pub counts_are : known.counts ≡ counts_in kept
+  pub none_carried : (life : Life) → IsCarried known.carried life
 
 -- .. a past
 pub record StandsAt {G S : Type 0} (stores : Stores G S) (known : Knowledge G S) (past : Past) : Type 0 where

@@ -4,6 +4,7 @@
 #![tactic(auto)]
 
 mod accepting;
+mod carried;
 mod causes;
 mod closings;
 mod commanding;

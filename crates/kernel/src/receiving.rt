@@ -1,5 +1,5 @@
 //! What an event does.
-ghost use Rattle.std.specs.Prelude.{◌≡◌, List, ◌∷◌, IsOk, OnOk, OnErr};
+ghost use Rattle.std.specs.Prelude.{◌≡◌, true, List, [], ◌∷◌, IsOk, OnOk, OnErr};
 ghost use Rattle.events.specs.declared.input.Event.{Event};
 ghost use Rattle.events.specs.declared.input.Event.TheVariants as event;
 ghost use Rattle.kernel.specs.Lives.{Past, past_after, counted};
@@ -9,6 +9,8 @@ ghost use Rattle.mode_control.specs.Entry.{SupervisionEntry};
 ghost use Rattle.mode_control.specs.Life.{Life, grown};
 ghost use Rattle.mode_control.specs.Sentences.{entry_of};
 ghost use Rattle.mode_control.specs.StandsFor.{StandsForLife as SupervisionStandsForLife};
+ghost use Rattle.mode_table.specs.Modes.{is_mode};
+ghost use Rattle.speed_supervision.specs.Limit.{limit};
 ghost use Rattle.track_picture.specs.Steps.{HasSpaceFor as TrackHasSpaceFor};
 
 use crate::parts::Parts;
@@ -16,11 +18,10 @@ use crate::sight::{Sight, backward_by, reading_of, stands};
 use crate::state::StateOver;
 use events::{Event, Input};
 use mode_control::SupervisionOver;
-use mode_table::Cold;
-use speed_supervision::limit;
+use mode_table::{Cold, Mode};
 use std::alloc::Global;
 use track_picture::ProfileStores;
-use units::NoMemory;
+use units::{Mph, NoMemory};
 
 impl Parts {
     // An event shows this.
@@ -32,10 +33,32 @@ impl Parts {
     }
 }
 
-// What an input shows that was just received.
-fn sight_of<T: ProfileStores>(supervision: &SupervisionOver<T>, input: &Input) -> Sight
+// An input closes no balise group: a reading or a moment, while none is being read.
+fn closes_none<T: ProfileStores>(supervision: &SupervisionOver<T>, input: &Input) -> bool
+    ensures { (life : Life) → SupervisionStandsForLife T.stores supervision.now life → result ≡ true
+        → (entry_of life input.now).track.used.groups ≡ [] }
+{
+    match input {
+        Input::Odometer(_) | Input::Clock(_) => supervision.track().group_being_read().is_none(),
+        Input::Telegram(_) | Input::Driver(_) => false,
+    }
+}
+
+// An event is calm that closes no group and keeps the mode.
+fn is_calm(closes_none: bool, before: Mode, after: Mode) -> bool
+    ensures { result ≡ true → (closes_none ≡ true) × (is_mode before after ≡ true) }
+{
+    closes_none && after.number() == before.number()
+}
+
+// What an input shows that was just received, with the limit after it.
+fn sight_of<T: ProfileStores>(
+    supervision: &SupervisionOver<T>,
+    input: &Input,
+    allowed: Mph,
+) -> Sight
     ensures { (life : Life) → SupervisionStandsForLife T.stores supervision.now (grown life (entry_of life input.now))
-        → result ≡ sight_at life (entry_of life input.now) }
+        → allowed ≡ limit (grown life (entry_of life input.now)) → result ≡ sight_at life (entry_of life input.now) }
 {
     let reading = reading_of(input);
     let happened = supervision.track().happened();
@@ -44,7 +67,7 @@ fn sight_of<T: ProfileStores>(supervision: &SupervisionOver<T>, input: &Input) -
         backward: backward_by(happened.overrun, &reading),
         service_brake_requested: happened.requested.service,
         speed: supervision.track().speed(),
-        limit: limit(supervision),
+        limit: allowed,
     }
 }
 
@@ -59,8 +82,12 @@ impl<T: ProfileStores> StateOver<T> {
         ensures counts { OnOk result (self.new.counts ≡ counted self.old.counts (event.Input input.now)) }
         ensures err { OnErr result (self.new ≡ self.old) }
     {
+        let closes_none = closes_none(&self.supervision, input);
+        let mode = self.supervision.mode();
         self.supervision.receive(input)?;
-        let sight = sight_of(&self.supervision, input);
+        let calm = is_calm(closes_none, mode, self.supervision.mode());
+        let limit = self.carried.limit_after(calm, &self.supervision);
+        let sight = sight_of(&self.supervision, input, limit);
         self.parts.note(&sight);
         self.counts = self.counts.received();
         Ok(())

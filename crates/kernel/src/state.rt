@@ -10,6 +10,7 @@ ghost use Rattle.kernel.specs.Quiet.{HasNoTrack};
 ghost use Rattle.kernel.specs.StandsFor.{StandsForLife, StandsFor, WaitsFor};
 ghost use Rattle.mode_control.specs.Sentences.{initial_life};
 
+use crate::carried::Carried;
 use crate::counts::Counts;
 use crate::parts::{Parts, no_speed};
 use crate::window::Window;
@@ -28,6 +29,7 @@ pub struct StateOver<T: ProfileStores> {
     pub(crate) parts: Parts,
     pub(crate) counts: Counts,
     pub(crate) supervision: SupervisionOver<T>,
+    pub(crate) carried: Carried,
 }
 
 /// What the kernel knows, with stores that stay short however long the life.
@@ -38,7 +40,7 @@ impl<T: ProfileStores> Model for StateOver<T> {
 
     ghost Value = { Knowledge T.Gradients T.Speeds };
 
-    ghost view = { λ s. record { parts = s.parts; counts = s.counts; supervision = s.supervision } };
+    ghost view = { λ s. record { parts = s.parts; counts = s.counts; supervision = s.supervision; carried = s.carried } };
 }
 
 impl<T: ProfileStores> StateOver<T> {
@@ -55,6 +57,7 @@ impl<T: ProfileStores> StateOver<T> {
             },
             counts: Counts::NONE,
             supervision: SupervisionOver::new(alloc, Kept::nothing(), Cold::Unknown),
+            carried: Carried::nothing(),
         }
     }
 
@@ -73,6 +76,7 @@ impl<T: ProfileStores> StateOver<T> {
                 lives: kept.lives,
             },
             supervision: SupervisionOver::new(alloc, kept, cold),
+            carried: Carried::nothing(),
         }
     }
 
@@ -121,6 +125,7 @@ impl<T: ProfileStores> StateOver<T> {
             parts: self.parts,
             counts: self.counts,
             supervision: self.supervision.copy(alloc)?,
+            carried: self.carried,
         })
     }
 }

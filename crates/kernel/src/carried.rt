@@ -1,0 +1,102 @@
+//! A steady limit that is carried from event to event, so that most readings need not seek the limit anew.
+ghost use Rattle.std.specs.Prelude.{◌≡◌, true, IfSome};
+ghost use Rattle.mode_control.specs.Life.{Life};
+ghost use Rattle.mode_control.specs.StandsFor.{StandsForLife};
+ghost use Rattle.speed_supervision.specs.Limit.{limit};
+ghost use Rattle.kernel.specs.Carrying.{IsCarried, IsCarriedAhead};
+
+use mode_control::SupervisionOver;
+use speed_supervision::{SteadyLimit, limit};
+use track_picture::ProfileStores;
+use units::Mph;
+
+// How many calm events pass after a search that found nothing, and after an event that isn't calm.
+const AFTER_SEARCH: u8 = 16;
+
+const AFTER_OTHERS: u8 = 1;
+
+/// What is carried (this project's profile).
+#[derive(Clone, Copy)]
+pub struct Carried {
+    /// A limit that is steady where the train is; None where none is known.
+    pub steady: Option<SteadyLimit>,
+    /// How many calm events pass until one is looked for.
+    pub pause: u8,
+}
+
+impl Carried {
+    fn none_for(pause: u8) -> Self
+        ensures { (life : Life) → IsCarried result life }
+    {
+        Carried {
+            steady: None,
+            pause,
+        }
+    }
+
+    /// Nothing, as a life begins, and after an event that isn't calm.
+    pub fn nothing() -> Self
+        ensures { (life : Life) → IsCarried result life }
+    {
+        Carried::none_for(AFTER_OTHERS)
+    }
+
+    // The limit, where what is carried gives it.
+    fn known_limit<T: ProfileStores>(&self, supervision: &SupervisionOver<T>) -> Option<Mph>
+        ensures { (life : Life) → StandsForLife T.stores supervision.now life → IsCarriedAhead self.now life
+            → IfSome result (λ speed. (speed ≡ limit life) × IsCarried self.now life) }
+    {
+        match &self.steady {
+            None => None,
+            Some(steady) => {
+                // (that the window is ordered is known by this)
+                let _rear = steady.narrowest.rear();
+                steady.limit_of(supervision)
+            }
+        }
+    }
+
+    // The limit, and a steady one is looked for where no pause is left.
+    fn seek<T: ProfileStores>(&mut self, supervision: &SupervisionOver<T>) -> Mph
+        ensures limit { (life : Life) → StandsForLife T.stores supervision.now life → result ≡ limit life }
+        ensures carried { (life : Life) → StandsForLife T.stores supervision.now life → IsCarried self.new life }
+    {
+        if self.pause > 0 {
+            *self = Carried::none_for(self.pause - 1);
+            return limit(supervision);
+        }
+        match SteadyLimit::find(supervision) {
+            None => {
+                *self = Carried::none_for(AFTER_SEARCH);
+                limit(supervision)
+            }
+            Some(steady) => {
+                let speed = steady.limit;
+                self.steady = Some(steady);
+                speed
+            }
+        }
+    }
+
+    /// The limit after an event. After a calm one, which leaves the track as it was from the forgetting mark on, it is the
+    /// steady one where that still holds.
+    pub fn limit_after<T: ProfileStores>(
+        &mut self,
+        calm: bool,
+        supervision: &SupervisionOver<T>,
+    ) -> Mph
+        ensures limit { (life : Life) → StandsForLife T.stores supervision.now life
+            → (calm ≡ true → IsCarriedAhead self.old life) → result ≡ limit life }
+        ensures carried { (life : Life) → StandsForLife T.stores supervision.now life
+            → (calm ≡ true → IsCarriedAhead self.old life) → IsCarried self.new life }
+    {
+        if !calm {
+            *self = Carried::nothing();
+            return limit(supervision);
+        }
+        match self.known_limit(supervision) {
+            Some(speed) => speed,
+            None => self.seek(supervision),
+        }
+    }
+}

@@ -2,6 +2,7 @@
 use Rattle.std.proofs.Common.{◌≡◌, ℕ, ℤ, ◌≤ℤ◌, List, [], ◌∷◌, Bool, true, false, cond, refl, ap, sym, ◌∙◌, arith}
 use Rattle.std.specs.Prelude.{Option, Some, None, not, ◌&&◌, int_lt, filter, filter_map, reverse}
 use Rattle.std.specs.Int.{int_max}
+use Rattle.std.proofs.lemmas.Bool.{and_left}
 use Rattle.std.proofs.lemmas.Int.{ints}
 use Rattle.units.specs.Stretches.{Span}
 use Rattle.areas.specs.declared.area.Area.{Area}
@@ -92,12 +93,14 @@ kept p q none [] = refl
 kept p q none (r ∷ rs) =
     one_kept (q r) p r (filter q rs) (none r) ∙ ap (λ xs. cond (p r) (r ∷ xs) xs) (kept p q none rs)
 
--- the restrictions in force that cover a place
-abbrev pub covering : InForce → ℤ → List Restriction
-covering track place = filter (covers track.mark place) track.restrictions
+-- the restrictions in force that cover a place and pass a test
+abbrev pub covering : InForce → ℤ → (Restriction → Bool) → List Restriction
+covering track place test = filter (λ r. covers track.mark place r && test r) track.restrictions
 
-all_covering : (mark place : ℤ) (rs : List Restriction) → filter (covers mark place) (filter (reaches_past mark) rs) ≡ filter (covers mark place) rs
-all_covering mark place = kept (covers mark place) (reaches_past mark) (uncovered mark place)
+all_covering : (mark place : ℤ) (test : Restriction → Bool) (rs : List Restriction) →
+    filter (λ r. covers mark place r && test r) (filter (reaches_past mark) rs) ≡ filter (λ r. covers mark place r && test r) rs
+all_covering mark place test =
+    kept (λ r. covers mark place r && test r) (reaches_past mark) (λ r past. and_left (covers mark place r) (test r) (uncovered mark place r past))
 
 -- ---- from a place on, the same limits a train in both
 
@@ -105,7 +108,7 @@ pub record Alike (from : ℤ) (now before : List TrackEntry) : Type 0 where
   pub areas : areas_of now ≡ areas_of before
   pub speeds : (place : ℤ) → from ≤ℤ place → (speeds_of now).value place ≡ (speeds_of before).value place
   pub gradients : (place : ℤ) → from ≤ℤ place → (gradients_of now).value place ≡ (gradients_of before).value place
-  pub restrictions : (place : ℤ) → from ≤ℤ place → covering (restrictions_of now) place ≡ covering (restrictions_of before) place
+  pub restrictions : (place : ℤ) → from ≤ℤ place → (test : Restriction → Bool) → covering (restrictions_of now) place test ≡ covering (restrictions_of before) place test
 
 module _ (event : TrackEntry) (earlier : List TrackEntry) (mark : ℤ) (closed : event.used.groups ≡ []) (entered : event.entered ≡ None)
     (marked : event.mark ≡ Some mark) where
@@ -137,10 +140,9 @@ module _ (event : TrackEntry) (earlier : List TrackEntry) (mark : ℤ) (closed :
         areas = ap (λ (xs : List (List Area)). areas_or_none (newest xs)) (same zones ((λ n. (refl, λ x. refl)), (λ s. (refl, λ x. refl))));
         speeds = λ place above i. cond (hidden place above i) None (latest (same speeds ((λ n. (refl, λ x. refl)), (λ s. (refl, λ x. refl))) i) place);
         gradients = λ place above i. cond (hidden place above i) None (latest (same gradients ((λ n. (refl, λ x. refl)), (λ s. (refl, λ x. refl))) i) place);
-        restrictions = λ place above.
-            let rs = reverse (value restricted (happenings earlier)) in
-            all_covering (mark_in (happenings (event ∷ earlier))) place (reverse (value restricted (happenings (event ∷ earlier))))
-            ∙ (λ i. filter (λ r. not (hidden place above i) && not (int_lt place r.start) && int_lt place (end_of r))
+        restrictions = λ place above test.
+            all_covering (mark_in (happenings (event ∷ earlier))) place test (reverse (value restricted (happenings (event ∷ earlier))))
+            ∙ (λ i. filter (λ r. (not (hidden place above i) && not (int_lt place r.start) && int_lt place (end_of r)) && test r)
             (reverse (same restricted ((λ n. (refl, λ x. refl)), (λ s. (refl, λ x. refl))) i)))
-            ∙ sym (all_covering was place rs);
+            ∙ sym (all_covering was place test (reverse (value restricted (happenings earlier))));
       }

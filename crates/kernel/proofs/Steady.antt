@@ -1,8 +1,10 @@
 -- A steady limit stays steady in a calm event, while no track is forgotten that the train may cover within the window.
-use Rattle.std.proofs.Common.{◌≡◌, ℕ, zero, suc, ◌+◌, ◌*◌, ◌-◌, ℤ, pos, ◌+ℤ◌, ◌≤ℤ◌, List, [], ◌∷◌, ◌++◌, map, Bool, true, false, cond, refl, ap, sym, ◌∙◌, arith}
+use Rattle.std.proofs.Common.{◌≡◌, ℕ, zero, suc, ◌+◌, ◌*◌, ◌-◌, ℤ, pos, ◌+ℤ◌, ◌≤ℤ◌, List, [], ◌++◌, map, Bool, true, false, cond, refl, sym, ◌∙◌, arith}
 use Rattle.std.specs.Prelude.{Option, Some, None, unwrap_or, not, ◌&&◌, ◌||◌, int_lt, nat_lt, nat_le, filter, IfSome}
 use Rattle.std.specs.List.{list_all}
 use Rattle.std.proofs.lemmas.Int.{ints}
+use Rattle.std.proofs.lemmas.List.Elements.{filter_agree}
+use Rattle.std.proofs.Math.Bool.{and-true}
 use Rattle.std.proofs.lemmas.Option.{IfSome_then}
 use Rattle.units.specs.Stretches.{Span, gathered, least, count_between}
 use Rattle.areas.specs.Areas.{least_speed as least_in_areas, speed_in}
@@ -13,7 +15,6 @@ use Rattle.events.specs.declared.input.Input.{Input}
 use Rattle.mode_table.specs.declared.mode.Mode.{Mode}
 use Rattle.mode_table.specs.Modes.{is_mode}
 use Rattle.mode_table.specs.Rows.{next_mode}
-use Rattle.restriction.specs.declared.restriction.Restriction.{Restriction}
 use Rattle.restriction.specs.Covering.{covers, train_start}
 use Rattle.speed_profile.specs.Ahead.{greatest_place, is_inside, static_target, targets_ahead, targets_at}
 use Rattle.speed_profile.specs.Limit.{bound_speed, limiting_value, speeds_at}
@@ -54,23 +55,9 @@ braked_same f g deceleration from (suc n) same =
     let rest = braked_same f g deceleration (from +ℤ pos 1) n (λ place above. same place (omega (arith, ints))) in
     λ i. 2592 * slowing_on deceleration (here i) + rest i
 
--- .. and the restrictions that limit a train are some of those that cover a place
-both_one : (p t : Bool) (r : Restriction) (rs : List Restriction) (test : Restriction → Bool) → test r ≡ t →
-    cond (p && t) (r ∷ filter test rs) (filter test rs) ≡ filter test (cond p (r ∷ rs) rs)
-both_one true t r rs test is = ap (λ b. cond b (r ∷ filter test rs) (filter test rs)) (sym is)
-both_one false t r rs test is = refl
-
-both : (p test : Restriction → Bool) (rs : List Restriction) → filter (λ r. p r && test r) rs ≡ filter test (filter p rs)
-both p test [] = refl
-both p test (r ∷ rs) =
-    ap (λ xs. cond (p r && test r) (r ∷ xs) xs) (both p test rs) ∙ both_one (p r) (test r) r (filter p rs) test refl
-
-limiting : (track : InForce) (train : Span) (place : ℤ) →
-    restrictions.speeds_at track train place
-    ≡ map (λ r. r.speed) (filter (λ r. not (int_lt place (train_start train.rear train.min_front r.delay))) (covering track place))
-limiting track train place =
-    ap (map (λ (r : Restriction). r.speed))
-    (both (covers track.mark place) (λ r. not (int_lt place (train_start train.rear train.min_front r.delay))) track.restrictions)
+whole : (track : InForce) (place : ℤ) → covering track place (λ r. true) ≡ filter (covers track.mark place) track.restrictions
+whole track place =
+    filter_agree (λ r. covers track.mark place r && true) (covers track.mark place) (λ r. and-true (covers track.mark place r)) track.restrictions
 
 -- ---- the permitted speed of a train asks for no place behind its minimum safe rear
 
@@ -87,9 +74,7 @@ module _ (now before : Life) (steady : SteadyLimit) (train : Span) (same : Alike
       let static = gathered_same (speeds_at one.track.static steady.bounds.category train) (speeds_at other.track.static steady.bounds.category train) train.rear count
       (λ place above i. listed (limiting_value steady.bounds.category train.min_front place (same.speeds place above i))) in
       let restricted = gathered_same (restrictions.speeds_at one.track.restrictions train) (restrictions.speeds_at other.track.restrictions train) train.rear count
-      (λ place above. limiting one.track.restrictions train place
-      ∙ (λ i. map (λ r. r.speed) (filter (λ r. not (int_lt place (train_start train.rear train.min_front r.delay))) (same.restrictions place above i)))
-      ∙ sym (limiting other.track.restrictions train place)) in
+      (λ place above i. map (λ r. r.speed) (same.restrictions place above (λ r. not (int_lt place (train_start train.rear train.min_front r.delay))) i)) in
       λ i. least_in_areas steady.national train (least (least (bound_speed train.max_front steady.bounds) (static i)) (restricted i)) (same.areas i)
 
   targets_same : targets_ahead train.max_front steady.bounds one.track ≡ targets_ahead train.max_front steady.bounds other.track
@@ -98,8 +83,9 @@ module _ (now before : Life) (steady : SteadyLimit) (train : Span) (same : Alike
       (count_between (train.max_front +ℤ pos 1) greatest_place)
       (λ place ahead.
       let above : train.rear ≤ℤ place = omega (arith, ints) in
+      let covered = sym (whole one.track.restrictions place) ∙ same.restrictions place above (λ r. true) ∙ whole other.track.restrictions place in
       λ i. listed (static_target steady.bounds place (same.speeds place above i))
-      ++ map (λ r. record { place = place; speed = r.speed }) (same.restrictions place above i)
+      ++ map (λ r. record { place = place; speed = r.speed }) (covered i)
       ++ map (λ area. record { place = place; speed = speed_in steady.national area }) (filter (is_inside place) (same.areas i)))
 
   permitted_same : (last : Option Target) → permitted_to train one last ≡ permitted_to train other last

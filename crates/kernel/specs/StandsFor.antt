@@ -84,7 +84,6 @@ pub record StandsForLife {G S : Type 0} (stores : Stores G S) (known : Knowledge
 pub record WaitsFor {G S : Type 0} (stores : Stores G S) (known : Knowledge G S) (kept : Kept) (cold : Cold) : Type 0 where
   pub life_is : StandsForLife stores known (record { kept = kept; cold = cold; entries = [] })
   pub counts_are : known.counts ≡ counts_in kept
-  pub none_carried : (life : Life) → IsCarried known.carried life
 
 -- .. a past
 pub record StandsAt {G S : Type 0} (stores : Stores G S) (known : Knowledge G S) (past : Past) : Type 0 where

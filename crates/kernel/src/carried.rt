@@ -10,10 +10,8 @@ use speed_supervision::{SteadyLimit, limit};
 use track_picture::ProfileStores;
 use units::Mph;
 
-// How many calm events pass after a search that found nothing, and after an event that isn't calm.
-const AFTER_SEARCH: u8 = 16;
-
-const AFTER_OTHERS: u8 = 1;
+// How many calm events pass after a search that found nothing.
+const PAUSE: u8 = 16;
 
 /// What is carried (this project's profile).
 #[derive(Clone, Copy)]
@@ -25,21 +23,11 @@ pub struct Carried {
 }
 
 impl Carried {
-    fn none_for(pause: u8) -> Self
-        ensures { (life : Life) → IsCarried result life }
-    {
-        Carried {
-            steady: None,
-            pause,
-        }
-    }
-
     /// Nothing, as a life begins, and after an event that isn't calm.
-    pub fn nothing() -> Self
-        ensures { (life : Life) → IsCarried result life }
-    {
-        Carried::none_for(AFTER_OTHERS)
-    }
+    pub const NONE: Carried = Carried {
+        steady: None,
+        pause: 1,
+    };
 
     // The limit, where what is carried gives it.
     fn known_limit<T: ProfileStores>(&self, supervision: &SupervisionOver<T>) -> Option<Mph>
@@ -61,13 +49,14 @@ impl Carried {
         ensures limit { (life : Life) → StandsForLife T.stores supervision.now life → result ≡ limit life }
         ensures carried { (life : Life) → StandsForLife T.stores supervision.now life → IsCarried self.new life }
     {
+        self.steady = None;
         if self.pause > 0 {
-            *self = Carried::none_for(self.pause - 1);
+            self.pause -= 1;
             return limit(supervision);
         }
         match SteadyLimit::find(supervision) {
             None => {
-                *self = Carried::none_for(AFTER_SEARCH);
+                self.pause = PAUSE;
                 limit(supervision)
             }
             Some(steady) => {
@@ -91,7 +80,7 @@ impl Carried {
             → (calm ≡ true → IsCarriedAhead self.old life) → IsCarried self.new life }
     {
         if !calm {
-            *self = Carried::nothing();
+            *self = Carried::NONE;
             return limit(supervision);
         }
         match self.known_limit(supervision) {

@@ -57,7 +57,7 @@ impl<T: ProfileStores> StateOver<T> {
             },
             counts: Counts::NONE,
             supervision: SupervisionOver::new(alloc, Kept::nothing(), Cold::Unknown),
-            carried: Carried::nothing(),
+            carried: Carried::NONE,
         }
     }
 
@@ -76,7 +76,7 @@ impl<T: ProfileStores> StateOver<T> {
                 lives: kept.lives,
             },
             supervision: SupervisionOver::new(alloc, kept, cold),
-            carried: Carried::nothing(),
+            carried: Carried::NONE,
         }
     }
 
@@ -88,6 +88,7 @@ impl<T: ProfileStores> StateOver<T> {
         ensures track { HasNoTrack T.stores self.old → HasNoTrack T.stores self.new }
     {
         self.supervision.set_out();
+        self.carried = Carried::NONE;
         self.counts = self.counts.powered_up();
     }
 

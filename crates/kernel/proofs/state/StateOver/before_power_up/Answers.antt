@@ -1,4 +1,4 @@
-use Rattle.std.proofs.Common.{[], refl}
+use Rattle.std.proofs.Common.{refl}
 use Rattle.kernel.proofs.state.StateOver.before_power_up.Goals as goal
 
 pub returns-clause-waits : goal.returns-clause-waits
@@ -6,8 +6,7 @@ returns-clause-waits g c = record {
   life_is = record {
     parts_are = c.new.ensures.before;
     supervision_is = c.new-2.ensures.stands;
-    carried_is = c.nothing.ensures (record { kept = c.args.kept; cold = c.args.cold; entries = [] });
+    carried_is = tt;
   };
   counts_are = refl;
-  none_carried = c.nothing.ensures;
 }

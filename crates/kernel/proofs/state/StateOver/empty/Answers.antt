@@ -4,7 +4,6 @@ use Rattle.events.specs.declared.kept.Kept.{Kept}
 use Rattle.events.specs.Nothing.{nothing_kept}
 use Rattle.mode_table.specs.declared.statuses.Cold.TheVariants as cold
 use Rattle.mode_control.specs.StandsFor.{StandsForLife}
-use Rattle.kernel.specs.Lives.{no_life}
 use Rattle.kernel.proofs.state.StateOver.empty.Goals as goal
 
 pub returns-clause-stands : goal.returns-clause-stands
@@ -14,6 +13,6 @@ returns-clause-stands g c =
     let supervised = subst (λ (k : Kept). StandsForLife g.T.ProfileStores.stores c.new-2.result (record { kept = k; cold = cold.Unknown; entries = [] }))
     c.nothing.ensures c.new-2.ensures.stands in
     record {
-      life_is = record { parts_are = λ i. record { window = window i; limit = limit i; position = Unknown }; supervision_is = supervised; carried_is = c.nothing-2.ensures no_life };
+      life_is = record { parts_are = λ i. record { window = window i; limit = limit i; position = Unknown }; supervision_is = supervised; carried_is = tt };
       counts_are = refl;
     }

@@ -26,7 +26,7 @@ above_fails test (suc n) k above within =
       | inr le ↦ above_fails test n k over le
     ]) above
 
-passes : (test : ℕ → Bool) (n : ℕ) → (greatest test n ≡ 0) ⊎ (test (greatest test n) ≡ true)
+pub passes : (test : ℕ → Bool) (n : ℕ) → (greatest test n ≡ 0) ⊎ (test (greatest test n) ≡ true)
 unfolding greatest
 passes test zero = inl refl
 passes test (suc n) =

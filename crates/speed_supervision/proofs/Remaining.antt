@@ -1,12 +1,12 @@
 -- A train that covers less, and whose front may be at fewer places, is limited no more; nor is one that comes nearer asked
 -- for less.
-use Rattle.std.proofs.Common.{◌≡◌, ℕ, ℤ, pos, negsuc, ◌+◌, ◌-◌, ◌*◌, ◌<◌, ◌≤◌, ◌+ℤ◌, ◌-ℤ◌, ◌≤ℤ◌, List, [], ◌∷◌, ◌++◌, inl, inr, Bool, true, false, cond, refl, ap, sym, ◌∙◌, subst, arith}
-use Rattle.std.specs.Prelude.{Option, None, Some, nat_le, nat_lt, int_lt, not, ◌&&◌, ◌||◌, filter, map}
+use Rattle.std.proofs.Common.{◌≡◌, ℕ, ℤ, pos, negsuc, ◌+◌, ◌-◌, ◌*◌, ◌<◌, ◌≤◌, ◌+ℤ◌, ◌-ℤ◌, ◌≤ℤ◌, ◌<ℤ◌, List, [], ◌∷◌, ◌++◌, inl, inr, Bool, true, false, cond, refl, ap, sym, ◌∙◌, subst, arith}
+use Rattle.std.specs.Prelude.{Option, None, Some, IsSome, nat_le, nat_lt, int_lt, not, ◌&&◌, ◌||◌, filter, map}
 use Rattle.std.specs.Option.{option_map}
 use Rattle.std.proofs.lemmas.Bool.{and_parts, and_from}
 use Rattle.std.proofs.lemmas.Bool.Decides.{nat_tests}
-use Rattle.std.proofs.lemmas.Int.{ints}
-use Rattle.units.specs.Stretches.{Span, over, least, natural}
+use Rattle.std.proofs.lemmas.Int.{ints, by_lt_z}
+use Rattle.units.specs.Stretches.{Span, IsOrdered, over, least, natural}
 use Rattle.units.proofs.Gathering.{IsIn, over_at, in_over}
 use Rattle.vars.specs.declared.restriction.TrainLengthDelay.{TrainLengthDelay}
 use Rattle.vars.specs.declared.restriction.TrainLengthDelay.TheVariants.{Applied, NotApplied}
@@ -18,20 +18,19 @@ use Rattle.authority.specs.declared.answers.End.{End}
 use Rattle.brakes.specs.declared.brakes.Brakes.{Brakes}
 use Rattle.brakes.specs.Brakes.{reaction_way}
 use Rattle.braking.specs.declared.target.Target.{Target}
-use Rattle.braking.specs.Approaches.{Course}
 use Rattle.braking.specs.Braking.{braked, distance_to, fits, fits_all, greatest}
 use Rattle.braking.proofs.Braked.{braked_later}
 use Rattle.braking.proofs.Greatest.{greatest_is, greatest_within}
-use Rattle.track_store.specs.Profiles.{listed, lesser}
-use Rattle.track_store.specs.Restrictions.{speeds_at}
+use Rattle.braking.proofs.Slower.{slow_fits}
+use Rattle.track_store.specs.Profiles.{listed, lesser, IsKnownThroughout}
+use Rattle.track_store.specs.Restrictions.{speeds_at, least_speed}
 use Rattle.track_store.proofs.Jumps.{least_below, lesser_below, natural_is}
 use Rattle.speed_profile.specs.declared.reported.CategorySpeeds.{CategorySpeeds}
 use Rattle.speed_profile.specs.declared.limit.Bounds.{Bounds}
-use Rattle.speed_profile.specs.Ahead.{greatest_place, targets_at, targets_ahead}
+use Rattle.speed_profile.specs.Ahead.{greatest_place, is_inside, static_target, static_targets, restriction_targets, area_targets, targets_at}
 use Rattle.speed_profile.specs.Limit.{counts_at, limiting_value, least_static, speed_at_end, bound_speed, limit_on}
 use Rattle.speed_profile.specs.Limit as static_limit
 use Rattle.speed_profile.specs.Reported.{speed_of}
-use Rattle.speed_profile.specs.Targets.{AskTheSame}
 use Rattle.speed_profile.specs.Track.{TrackSpeeds}
 use Rattle.speed_profile.proofs.Asking.{fit_all}
 use Rattle.speed_profile.proofs.Members.{in_left, in_right, in_either, one_passed, passes}
@@ -46,6 +45,8 @@ use Rattle.speed_supervision.specs.Limit.{bounds_of, in_areas, along, permitted_
 use Rattle.speed_supervision.specs.Steady.{Covers, IsWithin, HoldsBetween, IsSteady, journey_of as steady_journey}
 use Rattle.speed_supervision.specs.Supervised.{limit_here, permitted_to, permitted_on}
 use Rattle.speed_supervision.specs.Targets.{Journey, along_track}
+use Rattle.speed_supervision.proofs.Deciding.{passes as greatest_passes}
+use Rattle.speed_supervision.proofs.Finding.{listed_in}
 use Rattle.speed_supervision.proofs.Preceding.{fit_each}
 
 -- ---- more speeds have no greater least one
@@ -198,43 +199,135 @@ module _ (gradient : ℤ → Option ℤ) (brakes : Brakes) (front farther : ℤ)
       )) in
       settled v t.speed way d d' (v * v) (t.speed * t.speed) _ _ (λ acts. omega (arith, more acts)) taken e
 
-fewer_ahead : (bounds : Bounds) (track : TrackSpeeds) (front farther : ℤ) → front ≤ℤ farther → (t : Target) →
-    IsIn t (targets_ahead farther bounds track) → IsIn t (targets_ahead front bounds track)
-fewer_ahead bounds track front farther ahead t there =
-    let at = over_at (targets_at bounds track) (farther +ℤ pos 1) greatest_place t there in
-    in_over (targets_at bounds track) (front +ℤ pos 1) greatest_place t at.0 (omega (arith, ints, at.1, ahead)) at.2 at.3
-
--- a speed fits what is left and the one before, so all of it
-pub fit_next : {G : Type 0} (value : G → ℤ → Option ℤ) (course old : Course G) (before after : List Target) (t : Target) (result : Bool) →
-    old ≡ course → AskTheSame before (t ∷ after) → result ≡ fits old.front (value old.gradient) old.brakes t old.speed → result ≡ true →
-    fits_all course.front (value course.gradient) course.brakes after course.speed ≡ true →
-    fits_all course.front (value course.gradient) course.brakes before course.speed ≡ true
-fit_next {G} value course old before after t result same asks is fitting left =
-    let gradient = value course.gradient in
-    let here : fits course.front gradient course.brakes t course.speed ≡ true =
-    sym (ap (λ (x : Course G). fits x.front (value x.gradient) x.brakes t x.speed) same) ∙ (sym is ∙ fitting) in
-    asks course.front gradient course.brakes course.speed
-    ∙ and_from (fits course.front gradient course.brakes t course.speed) (fits_all course.front gradient course.brakes after course.speed) here left
-
 -- ---- a train that is anywhere between two stretches
 
 abbrev at_front : Journey → ℤ → Journey
 at_front journey front = record journey { front = front }
 
-module _ (journey : Journey) (last : List Target) (limit : ℕ) where
-  fit_on : (front farthest : ℤ) → journey.front ≤ℤ front → front ≤ℤ farthest →
-      fits_all farthest journey.gradient journey.brakes (along_track journey ++ last) limit ≡ true →
-      fits_all front journey.gradient journey.brakes (along_track (at_front journey front) ++ last) limit ≡ true
-  fit_on front farthest low high fit =
-      let all = along_track journey ++ last in
+-- what a centimetre ahead asks for is no less than the limit of a train that may cover it, where a static speed is known
+module _ (wide : Span) (bounds : Bounds) (track : TrackSpeeds) (place : ℤ) (rear : wide.rear ≤ℤ place) (front : wide.min_front ≤ℤ place)
+    (within : place ≤ℤ wide.max_front) where
+  abbrev bound : ℕ
+  bound = bound_speed wide.max_front bounds
+
+  abbrev static : ℕ
+  static = least_static track.static bounds.category wide bound
+
+  abbrev restricted : ℕ
+  restricted = least_speed track.restrictions wide static
+
+  counted : (delay : TrainLengthDelay) → counts_at wide.min_front place delay ≡ true
+  counted Applied = refl
+  counted NotApplied = grind (arith, ints)
+
+  by_static : (value : Option CategorySpeeds) (t : Target) → track.static place ≡ value → IsSome value →
+      IsIn t (listed (static_target bounds place value)) → static ≤ t.speed
+  by_static None t is known there = absurd (let no : false ≡ true = known in cc)
+  by_static (Some speeds) t is known there =
+      let speed : ℕ = speed_of speeds bounds.category in
+      let here : limiting_value bounds.category wide.min_front place (Some speeds) ≡ Some speed = rw (counted speeds.delay) refl in
+      let listed_it : IsIn speed (static_limit.speeds_at track.static bounds.category wide place) =
+      listed_in (limiting_value bounds.category wide.min_front place (track.static place)) speed
+      (ap (limiting_value bounds.category wide.min_front place) is ∙ here) in
+      let least_it : static ≤ speed = least_below_it bound (over (static_limit.speeds_at track.static bounds.category wide) wide.rear wide.max_front) speed
+      (in_over (static_limit.speeds_at track.static bounds.category wide) wide.rear wide.max_front speed place rear within listed_it) in
+      elim there [
+        | inl same ↦ (let at : t.speed ≡ speed = ap (λ (x : Target). x.speed) same in omega (arith, at, least_it))
+        | inr never ↦ absurd never
+      ]
+
+  by_restriction : (t : Target) → IsIn t (restriction_targets track.restrictions.mark track.restrictions.restrictions place) → restricted ≤ t.speed
+  by_restriction t there =
+      let mark : ℤ = track.restrictions.mark in
+      let all = track.restrictions.restrictions in
+      let one = one_passed (λ (r : Restriction). record { place = place; speed = r.speed }) (covers mark place) all t there in
+      let r : Restriction = one.0 in
+      let begun : (delay : TrainLengthDelay) → not (int_lt place (train_start wide.rear wide.min_front delay)) ≡ true =
+      elim [ Applied ↦ grind (arith, ints) | NotApplied ↦ grind (arith, ints) ] in
+      let limits_it : limits_at mark wide place r ≡ true =
+      and_from (covers mark place r) (not (int_lt place (train_start wide.rear wide.min_front r.delay))) one.2 (begun r.delay) in
+      let speed : t.speed ≡ r.speed = ap (λ (x : Target). x.speed) one.3 in
+      let least_it : restricted ≤ r.speed = least_below_it static (over (speeds_at track.restrictions wide) wide.rear wide.max_front) r.speed
+      (in_over (speeds_at track.restrictions wide) wide.rear wide.max_front r.speed place rear within
+      (passes (λ (x : Restriction). x.speed) (limits_at mark wide place) all r one.1 limits_it)) in
+      omega (arith, speed, least_it)
+
+  by_area : (t : Target) → IsIn t (area_targets track.national track.areas place) → limit_on wide bounds track ≤ t.speed
+  by_area t there =
+      let one = one_passed (λ (a : Area). record { place = place; speed = speed_in track.national a }) (is_inside place) track.areas t there in
+      let a : Area = one.0 in
+      let parts = and_parts (not (int_lt place a.start)) (is_before place a.end) one.2 in
+      let started : not (int_lt wide.max_front a.start) ≡ true = grind (arith, ints, parts.0) in
+      let start : a.start ≤ℤ place = grind (arith, ints, parts.0) in
+      let met : is_met wide a ≡ true =
+      and_from (not (int_lt wide.max_front a.start) && is_before wide.min_front a.end) (is_before a.start a.end)
+      (and_from (not (int_lt wide.max_front a.start)) (is_before wide.min_front a.end) started (before_sooner wide.min_front place a.end front parts.1))
+      (before_sooner a.start place a.end start parts.1) in
+      let speed : t.speed ≡ speed_in track.national a = ap (λ (x : Target). x.speed) one.3 in
+      let least_it : limit_on wide bounds track ≤ speed_in track.national a =
+      least_below_it restricted (map (speed_in track.national) (filter (is_met wide) track.areas)) (speed_in track.national a)
+      (passes (speed_in track.national) (is_met wide) track.areas a one.1 met) in
+      omega (arith, speed, least_it)
+
+  no_slower : (t : Target) → IsSome (track.static place) → IsIn t (targets_at bounds track place) → limit_on wide bounds track ≤ t.speed
+  no_slower t known there =
+      let mark : ℤ = track.restrictions.mark in
+      let first = static_targets bounds track.static place in
+      let second = restriction_targets mark track.restrictions.restrictions place in
+      let third = area_targets track.national track.areas place in
+      let in_areas : limit_on wide bounds track ≤ restricted = least_below restricted _ in
+      let in_force : restricted ≤ static = least_below static _ in
+      elim (in_either t (first ++ second) third there) [
+        | inl one ↦ elim (in_either t first second one) [
+          | inl k ↦ (let low : static ≤ t.speed = by_static (track.static place) t refl known k in omega (arith, low, in_areas, in_force))
+          | inr k ↦ (let low : restricted ≤ t.speed = by_restriction t k in omega (arith, low, in_areas))
+        ]
+        | inr k ↦ by_area t k
+      ]
+
+-- a greatest speed that is the limit itself fits
+fits_limit : (journey : Journey) (targets : List Target) (limit : ℕ) →
+    greatest (fits_all journey.front journey.gradient journey.brakes targets) limit ≡ limit →
+    fits_all journey.front journey.gradient journey.brakes targets limit ≡ true
+fits_limit journey targets limit is =
+    let test = fits_all journey.front journey.gradient journey.brakes targets in
+    elim (greatest_passes test limit) [
+      | inl none ↦ fit_all journey.front journey.gradient journey.brakes targets limit
+          (λ t there. slow_fits journey.front journey.gradient journey.brakes t limit (omega (arith, none, is)))
+      | inr fit ↦ ap test (sym is) ∙ fit
+    ]
+
+module _ (wide narrow : Span) (journey : Journey) (last : List Target) (limit : ℕ) (at : journey.front ≡ wide.max_front)
+    (most : limit_on wide journey.bounds journey.track ≡ limit)
+    (known : (place : ℤ) → narrow.max_front ≤ℤ place → place <ℤ (wide.max_front +ℤ pos 1) → IsSome (journey.track.static place))
+    (ordered : IsOrdered narrow.rear narrow.min_front narrow.max_front)
+    (fit : fits_all journey.front journey.gradient journey.brakes (along_track journey ++ last) limit ≡ true) where
+  fit_on : (train : Span) → Covers wide train → Covers train narrow →
+      fits_all train.max_front journey.gradient journey.brakes (along_track (at_front journey train.max_front) ++ last) limit ≡ true
+  fit_on train within beyond =
+      let front : ℤ = train.max_front in
+      let each = targets_at journey.bounds journey.track in
       let left = along_track (at_front journey front) in
+      let not_beyond : front ≤ℤ journey.front = omega (arith, ints, at, within.2) in
+      let from_there : (t : Target) → IsIn t (along_track journey ++ last) → fits front journey.gradient journey.brakes t limit ≡ true = λ t there.
+      fits_before journey.gradient journey.brakes front journey.front not_beyond t limit
+      (fit_each journey (along_track journey ++ last) limit fit t there) in
       fit_all front journey.gradient journey.brakes (left ++ last) limit
-      (λ t there.
-      let among : IsIn t all = elim (in_either t left last there) [
-        | inl one ↦ in_left t (along_track journey) last (fewer_ahead journey.bounds journey.track journey.front front low t one)
-        | inr one ↦ in_right t (along_track journey) last one
-      ] in
-      fits_before journey.gradient journey.brakes front farthest high t limit (fit_each (at_front journey farthest) all limit fit t among))
+      (λ t there. elim (in_either t left last there) [
+        | inl one ↦ (let ahead = over_at each (front +ℤ pos 1) greatest_place t one in
+            by_lt_z journey.front ahead.0
+            (λ (farther : journey.front <ℤ ahead.0). from_there t (in_left t (along_track journey) last
+            (in_over each (journey.front +ℤ pos 1) greatest_place t ahead.0 (omega (arith, ints, farther)) ahead.2 ahead.3)))
+            (λ (nearer : ahead.0 ≤ℤ journey.front).
+            let low : limit_on wide journey.bounds journey.track ≤ t.speed =
+            no_slower wide journey.bounds journey.track ahead.0
+            (omega (arith, ints, within.0, beyond.0, beyond.2, ordered.0, ordered.1, ahead.1))
+            (omega (arith, ints, within.1, beyond.1, beyond.2, ordered.1, ahead.1))
+            (omega (arith, ints, nearer, at)) t
+            (known ahead.0 (omega (arith, ints, beyond.2, ahead.1)) (omega (arith, ints, nearer, at))) ahead.3 in
+            slow_fits front journey.gradient journey.brakes t limit (omega (arith, low, most))))
+        | inr one ↦ from_there t (in_right t (along_track journey) last one)
+      ])
 
 released : (permitted : Option Target → ℕ) (limit national : ℕ) (end : Option End) → permitted (option_map the_end end) ≡ limit →
     ((last : Option Target) → permitted last ≤ limit) → released_by permitted end national ≡ limit
@@ -242,17 +335,20 @@ released permitted limit national None to_end within = to_end
 released permitted limit national (Some end) to_end within =
     omega (arith, to_end, within (Some (record { place = end.location; speed = 0 })))
 
-pub holds : (wide narrow : Span) (journey : Journey) (limit : ℕ) → journey.front ≡ narrow.max_front →
+pub holds : (wide narrow : Span) (journey : Journey) (limit : ℕ) → journey.front ≡ wide.max_front →
     limit_on wide journey.bounds journey.track ≡ limit → limit_on narrow journey.bounds journey.track ≡ limit →
-    fits_all wide.max_front journey.gradient journey.brakes (along_track journey ++ listed (option_map the_end journey.bounds.end)) limit ≡ true →
+    IsKnownThroughout journey.track.static narrow.max_front (wide.max_front +ℤ pos 1) →
+    IsOrdered narrow.rear narrow.min_front narrow.max_front →
+    greatest (fits_all journey.front journey.gradient journey.brakes (along_track journey ++ listed (option_map the_end journey.bounds.end))) limit ≡ limit →
     HoldsBetween wide narrow journey limit
-holds wide narrow journey limit front most least_of fit train national within beyond =
+holds wide narrow journey limit at most least_of known ordered permitted train national within beyond =
     let there : Journey = at_front journey train.max_front in
     let last : Option Target = option_map the_end journey.bounds.end in
     let low : limit_on wide journey.bounds journey.track ≤ limit_here train there = limit_less wide train within journey.bounds journey.track in
     let high : limit_here train there ≤ limit_on narrow journey.bounds journey.track = limit_less train narrow beyond journey.bounds journey.track in
     let here : limit_here train there ≡ limit = omega (arith, low, high, most, least_of) in
-    let fits_it = fit_on journey (listed last) limit train.max_front wide.max_front (omega (arith, ints, front, beyond.2)) within.2 fit in
+    let fit = fits_limit journey (along_track journey ++ listed last) limit permitted in
+    let fits_it = fit_on wide narrow journey (listed last) limit at most known ordered fit train within beyond in
     let test : ℕ → Bool = fits_all train.max_front journey.gradient journey.brakes (along_track there ++ listed last) in
     let to_end : permitted_to train there last ≡ limit =
     ap (greatest test) here ∙ greatest_is test limit limit (omega arith) (inr fits_it) (λ k above below. absurd (omega (arith, above, below))) in

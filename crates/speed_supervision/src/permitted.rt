@@ -17,6 +17,7 @@ use track_picture::ProfileStores;
 use units::Mph;
 
 /// What limits the train wherever it is.
+#[inline(always)]
 pub fn bounds<T: ProfileStores>(supervision: &SupervisionOver<T>, train: &TrainData) -> Bounds
     ensures { (life : Life) → StandsForLife T.stores supervision.now life → result ≡ bounds_of life train.now }
 {

@@ -150,7 +150,7 @@ fn find_for<T: ProfileStores>(
     let track = along(supervision);
     let brakes = train.brakes();
     let ahead = Ahead {
-        front: narrowest.max_front(),
+        front: widest.max_front(),
         bounds: &bounds,
         track: &track,
         gradient: supervision.track().gradients(),

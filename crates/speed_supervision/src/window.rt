@@ -5,11 +5,10 @@ ghost use Rattle.speed_supervision.specs.Steady.{Covers};
 use units::{Cm, Mph, Stretch};
 
 /// The most and the least that a train may cover while it runs 10 metres and four seconds' way on from where it is; None
-/// outside the limits of places. The front may be at the same place in both.
+/// outside the limits of places.
 pub fn window(here: &Stretch, speed: Mph) -> Option<(Stretch, Stretch)>
     ensures widest { IfSome result (λ stretches. Covers stretches.0 here.now) }
     ensures narrowest { IfSome result (λ stretches. Covers here.now stretches.1) }
-    ensures front { IfSome result (λ stretches. stretches.1.max_front ≡ here.now.max_front) }
 {
     let way = way_on(speed)?;
     let front = here.max_front();

@@ -37,7 +37,7 @@ impl Carried {
         match &self.steady {
             None => None,
             Some(steady) => {
-                // (that the window is ordered is known by this)
+                // (this call promises that the window is ordered)
                 let _rear = steady.narrowest.rear();
                 steady.limit_of(supervision)
             }

@@ -73,11 +73,13 @@ impl National {
             → self.new ≡ known kept (Reached max_front ∷ entries) }
         ensures ahead { IfSome self.new.announced (λ a. is_reached a.start max_front ≡ false) }
     {
-        if let Some(announced) = self.announced.take() {
-            if announced.is_reached(max_front) {
+        let reached = match &self.announced {
+            None => false,
+            Some(announced) => announced.is_reached(max_front),
+        };
+        if reached {
+            if let Some(announced) = self.announced.take() {
                 self.in_force = announced.values;
-            } else {
-                self.announced = Some(announced);
             }
         }
     }

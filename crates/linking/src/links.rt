@@ -1,12 +1,14 @@
 //! The list of announced groups, and what it answers to groups read, broken or missed.
 ghost use Rattle.std.specs.Prelude.{◌≡◌, ◌≤◌, List, [], length, filter, not, ◌||◌, ◌∷◌};
 ghost use Rattle.std.specs.List.{list_any};
+ghost use Rattle.odometry.specs.Place.{min_front};
 ghost use Rattle.linking.specs.Linking.{LinkEntry, known, numbered, takes, is_any, is_passed_by, misses, after_misses};
 ghost use Rattle.linking.specs.Linking.LinkEntry.{Announced, Accepted, Reacted};
 ghost use Rattle.linking.specs.Judging.{first_of, judgement, judged_by, after_verdict, after_judgement, meant, broken_effect, after_broken, is_before};
 
 use crate::{Announcement, Effect, GroupRead, Judgement, Verdict};
 use arrayvec::ArrayVec;
+use odometry::Place;
 use std::marker::Model;
 use units::Cm;
 use vars::GroupIdentity;
@@ -134,6 +136,18 @@ impl Links {
         self.has_missed = self.has_missed_passed(min_front);
         forget_passed(&mut self.left, min_front);
         effect
+    }
+
+    /// What `missed` does where the minimum safe front of a place is. Where no group is left it isn't worked out.
+    pub fn missed_at(&mut self, place: &Place) -> Effect
+        ensures answer { result ≡ misses self.old.has_missed (filter (is_passed_by (min_front place.now)) self.old.left) }
+        ensures stands { (entries : List LinkEntry) → self.old ≡ known entries
+            → self.new ≡ known (after_misses (filter (is_passed_by (min_front place.now)) self.old.left) entries) }
+    {
+        if self.left.is_empty() {
+            return Effect::NONE;
+        }
+        self.missed(place.min_front())
     }
 
     /// Whether linking is in use: whether an announced group is left.

@@ -49,7 +49,7 @@ impl Parts {
         self.begin();
         self.speed = reading.speed;
         let overrun = self.place.moved(reading.movement).is_err();
-        let requested = self.links.missed(self.place.min_front());
+        let requested = self.links.missed_at(&self.place);
         self.happened = Happened { overrun, requested };
         self.groups.is_leaving(self.place.sums().path())
     }

@@ -1,3 +1,4 @@
 pub mod Known
 pub mod Standing
 pub mod Untripped
+pub mod Resting

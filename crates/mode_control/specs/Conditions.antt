@@ -130,3 +130,15 @@ conditions life train =
       shunting_left = is_leaving done;
       started = is_start done;
     }
+
+-- .. where no movement led too far, and the driver did nothing
+abbrev pub calm : Conditions → Conditions
+calm c = record c {
+  overrun = false;
+  desk_closed = false;
+  trip_acknowledged = false;
+  override_accepted = false;
+  shunting_chosen = false;
+  shunting_left = false;
+  started = false;
+}

@@ -6,3 +6,4 @@ pub mod Sentences
 pub mod Tripping
 pub mod Closings
 pub mod StandsFor
+pub mod Resting

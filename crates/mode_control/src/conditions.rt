@@ -1,8 +1,11 @@
 //! What the rows of the mode table ask for.
-ghost use Rattle.std.specs.Prelude.{◌≡◌, Bool, false, is_some};
+ghost use Rattle.std.specs.Prelude.{◌≡◌, Bool, false, is_some, IsTrue, []};
 ghost use Rattle.mode_table.specs.declared.conditions.Conditions.{Conditions as Requested};
 ghost use Rattle.mode_table.specs.Rows.{next_mode};
-ghost use Rattle.mode_control.specs.Conditions.{is_level_0, is_level_1, is_full_to, is_full, is_overridden, left_of_override, is_beyond, is_beyond_end, trips, is_beyond_staff_distance, is_start, is_shunting_choice, is_leaving, is_override, is_desk_closing, is_trip_acknowledging, conditions};
+ghost use Rattle.track_picture.specs.History.{areas_of};
+ghost use Rattle.track_picture.specs.StandsFor.{Life as TrackLife, parts_of as track_parts_of};
+ghost use Rattle.units.specs.Stretches.{Span};
+ghost use Rattle.mode_control.specs.Conditions.{calm, is_level_0, is_level_1, is_full_to, is_full, is_overridden, left_of_override, is_beyond, is_beyond_end, trips, is_beyond_staff_distance, is_start, is_shunting_choice, is_leaving, is_override, is_desk_closing, is_trip_acknowledging, conditions};
 ghost use Rattle.mode_control.specs.History.{mode_of};
 ghost use Rattle.mode_control.specs.Life.{Life};
 ghost use Rattle.mode_control.specs.StandsFor.{StandsForLife};
@@ -12,7 +15,7 @@ use crate::state::SupervisionOver;
 use authority::End;
 use driver::{Acknowledged, Action, Datum, OverrideLeft};
 use mode_table::{Conditions, Mode, TrainLevel, next_mode};
-use track_picture::ProfileStores;
+use track_picture::{ProfileStores, TracksideOver};
 use units::{Cm, Stretch};
 use vars::AreaMode;
 
@@ -76,11 +79,43 @@ fn asks_for_full(mode: Mode) -> bool
     )
 }
 
+// Whether only what the driver does leads on from a mode, or an overrun.
+fn waits_for_driver(mode: Mode) -> bool
+    ensures { IsTrue result → (c : Requested) → next_mode mode (calm c) ≡ mode }
+{
+    matches!(
+        mode,
+        Mode::StandBy | Mode::Shunting | Mode::Trip | Mode::PostTrip | Mode::SystemFailure
+    )
+}
+
+// Whether a mode stays where, besides, the train isn't tripped, the level isn't 0 and no area is met.
+fn is_full_supervision(mode: Mode) -> bool
+    ensures { IsTrue result → (c : Requested) → next_mode mode (record (calm c) { trip = false; level_0 = false; on_sight_area = false; shunting_area = false }) ≡ mode }
+{
+    matches!(mode, Mode::FullSupervision)
+}
+
+// Whether a mode stays where, besides, the train isn't tripped and hasn't run too far, the level isn't 0, and the track
+// ahead isn't known.
+fn is_staff_responsible(mode: Mode) -> bool
+    ensures { IsTrue result → (c : Requested) → next_mode mode (record (calm c) { trip = false; beyond_staff_distance = false; level_0 = false; full = false }) ≡ mode }
+{
+    matches!(mode, Mode::StaffResponsible)
+}
+
 // Whether the minimum safe front is above the end of authority while no speed is allowed there.
 fn is_beyond(min_front: Cm, end: &End) -> bool
     ensures { result ≡ is_beyond min_front end.now }
 {
     end.place < min_front && end.speed.get() == 0
+}
+
+/// Whether no area is stored.
+pub fn has_no_area<T: ProfileStores>(track: &TracksideOver<T>) -> bool
+    ensures { (life : TrackLife) → track.now.parts ≡ track_parts_of life → IsTrue result → areas_of life.entries ≡ [] }
+{
+    track.areas().as_slice().is_empty()
 }
 
 impl<T: ProfileStores> SupervisionOver<T> {
@@ -175,6 +210,53 @@ impl<T: ProfileStores> SupervisionOver<T> {
             shunting_left: is_leaving(done),
             started: is_start(done),
         }
+    }
+
+    // Whether the driver did nothing in the event, and no movement led too far.
+    fn is_calm(&self) -> bool
+        ensures { (life : Life) (train : Span) → StandsForLife T.stores self.now life → IsTrue result → conditions life train ≡ calm (conditions life train) }
+    {
+        self.parts.done.is_none() && !self.track.happened().overrun
+    }
+
+    // Whether the train isn't to be tripped, and the level isn't 0.
+    fn runs_on(&self, train: &Stretch) -> bool
+        ensures { (life : Life) → StandsForLife T.stores self.now life → IsTrue result
+            → ((conditions life train.now).trip ≡ false) × ((conditions life train.now).level_0 ≡ false) }
+    {
+        !is_level_0(&self.parts.driver.level()) && !self.trips(train)
+    }
+
+    // Whether the train hasn't run too far in Staff Responsible, and the track ahead isn't known.
+    fn stays_responsible(&self, train: &Stretch) -> bool
+        ensures { (life : Life) → StandsForLife T.stores self.now life → IsTrue result
+            → ((conditions life train.now).beyond_staff_distance ≡ false) × ((conditions life train.now).full ≡ false) }
+    {
+        !self.is_beyond_staff_distance() && !self.is_full(train)
+    }
+
+    /// Whether the mode stays, as a few looks show. Where they don't it may stay all the same.
+    pub(crate) fn stays(&self, train: &Stretch) -> bool
+        ensures { (life : Life) → StandsForLife T.stores self.now life → IsTrue result
+            → next_mode (mode_of life.entries) (conditions life train.now) ≡ mode_of life.entries }
+    {
+        if !self.is_calm() {
+            return false;
+        }
+        let mode = self.parts.mode;
+        if waits_for_driver(mode) {
+            return true;
+        }
+        if !self.runs_on(train) {
+            return false;
+        }
+        if is_full_supervision(mode) {
+            return has_no_area(&self.track);
+        }
+        if is_staff_responsible(mode) {
+            return self.stays_responsible(train);
+        }
+        false
     }
 
     /// The mode after the event, where the train is there. Whether the track ahead is known up to the end of authority

@@ -1,25 +1,28 @@
 //! The change of mode, and the acknowledgements.
-ghost use Rattle.std.specs.Prelude.{◌≡◌, ◌≤◌, Option, None, Some, List, [], ◌∷◌, if◌then◌else◌};
+ghost use Rattle.std.specs.Prelude.{◌≡◌, ◌≤◌, IsTrue, Option, None, Some, List, [], ◌∷◌, if◌then◌else◌};
+ghost use Rattle.areas.specs.declared.acknowledgement.Acknowledgement.TheVariants.{Nothing};
 ghost use Rattle.driver.specs.declared.kept.Kept.{Kept as DriverKept};
 ghost use Rattle.driver.specs.Entries.{DriverEntry};
 ghost use Rattle.driver.specs.Known.{known};
 ghost use Rattle.track_picture.specs.Entry.{TrackEntry};
-ghost use Rattle.track_picture.specs.History.{place_of};
+ghost use Rattle.track_picture.specs.History.{place_of, areas_of, announced_level};
 ghost use Rattle.track_picture.specs.StandsFor.{Life as TrackLife, StandsForLife as StandsForTrack, parts_of as track_parts_of, grown as track_grown, size_in};
 ghost use Rattle.mode_table.specs.declared.level.TrainLevel.{TrainLevel as Level};
 ghost use Rattle.mode_control.specs.declared.deed.Deed.{Deed};
 ghost use Rattle.mode_control.specs.Entry.{initial};
 ghost use Rattle.mode_control.specs.History.{tracks, enters_staff, after_mode};
 ghost use Rattle.mode_control.specs.Life.{Life, grown};
+ghost use Rattle.mode_control.specs.Resting.{Rests};
 ghost use Rattle.mode_control.specs.Sentences.{changed, entered_in, has_entered, mode_after, moment_where, is_coming_to_level_0, call_of_areas, call_of_level, calls_in, left_in, the_mode_changes, the_calls_are_settled, written};
 ghost use Rattle.mode_control.specs.StandsFor.{StandsForLife, parts_of};
 
 use crate::acknowledging::answer;
 use crate::calls::{Call, Calls, Left};
-use crate::conditions::is_shunting_choice;
+use crate::conditions::{has_no_area, is_shunting_choice};
 use crate::parts::Parts;
 use crate::seeing::Seen;
 use crate::state::SupervisionOver;
+use areas::Acknowledgement;
 use driver::Driver;
 use mode_table::{Mode, TrainLevel};
 use track_picture::{ProfileStores, TracksideOver};
@@ -128,7 +131,44 @@ fn enter<T: ProfileStores>(track: &mut TracksideOver<T>, entered: &Option<Mode>)
     }
 }
 
+// Whether nothing is asked for, done or owed.
+fn is_nothing(acknowledgement: &Acknowledgement) -> bool
+    ensures { IsTrue result → acknowledgement.now ≡ Nothing }
+{
+    matches!(acknowledgement, Acknowledgement::Nothing)
+}
+
+impl Parts {
+    // Whether the driver has nothing to acknowledge.
+    fn owes_nothing(&self) -> bool
+        ensures { IsTrue result → (self.now.on_sight ≡ Nothing) × (self.now.shunting ≡ Nothing) × (self.now.level_0 ≡ Nothing) }
+    {
+        is_nothing(&self.on_sight) && is_nothing(&self.shunting) && is_nothing(&self.level_0)
+    }
+}
+
+// Whether no area is stored, and no level is announced or came into force.
+fn announces_nothing<T: ProfileStores>(track: &TracksideOver<T>, level: &Option<TrainLevel>) -> bool
+    ensures { (life : TrackLife) → track.now.parts ≡ track_parts_of life → IsTrue result
+        → (areas_of life.entries ≡ []) × (announced_level life.entries ≡ None) × (level.now ≡ None) }
+{
+    level.is_none() && track.level().announced().is_none() && has_no_area(track)
+}
+
 impl<T: ProfileStores> SupervisionOver<T> {
+    // Whether an event leaves all as it is: the mode stays, and nothing is called for, owed or left.
+    fn rests(&self, seen: &Seen) -> bool
+        ensures { (life : Life) → StandsForLife T.stores self.now life → IsTrue result → Rests life seen.now.train seen.now.level }
+    {
+        if !self.parts.owes_nothing() {
+            return false;
+        }
+        if !announces_nothing(&self.track, &seen.level) {
+            return false;
+        }
+        self.stays(&seen.train)
+    }
+
     /// The mode that is entered, if another one is, where the train is there.
     pub(crate) fn entered(&self, train: &Stretch) -> Option<Mode>
         ensures { (life : Life) → StandsForLife T.stores self.now life → result ≡ entered_in life train.now }
@@ -193,6 +233,9 @@ impl<T: ProfileStores> SupervisionOver<T> {
             → StandsForLife T.stores self.new (grown life (written (the_mode_changes ∷ the_calls_are_settled ∷ []) life event))) }
         ensures size { size_in T.stores self.new.track ≤ size_in T.stores self.old.track }
     {
+        if self.rests(seen) {
+            return;
+        }
         let entered = self.entered(&seen.train);
         let calls = self.calls(seen, &entered);
         enter(&mut self.track, &entered);

@@ -1,4 +1,4 @@
-use Rattle.std.proofs.Common.{◌∷◌, Option, None, Some, ap, subst, ◌∙◌}
+use Rattle.std.proofs.Common.{◌∷◌, Option, None, Some, rules, ap, subst, ◌∙◌}
 use Rattle.mode_table.specs.declared.mode.Mode.{Mode}
 use Rattle.track_picture.specs.Entry.{TrackEntry}
 use Rattle.track_picture.specs.StandsFor.{KnownTrack, grown as track_grown}
@@ -9,6 +9,7 @@ use Rattle.mode_control.specs.History.{tracks}
 use Rattle.mode_control.specs.Life.{Life, track_of, grown}
 use Rattle.mode_control.specs.Sentences.{calls_in, left_in}
 use Rattle.mode_control.specs.StandsFor.{Knowledge, StandsForLife}
+use Rattle.mode_control.proofs.Resting.{rested}
 use Rattle.mode_control.proofs.Standing.{seen}
 use Rattle.mode_control.proofs.state.SupervisionOver.turn.Goals as goal
 
@@ -39,3 +40,10 @@ returns-clause-stands g c life reported deed s =
       left = left_in (record looked { entered = m } ∷ tracks life.entries) train;
     })))
     entered given
+
+pub returns-then-rests-clause-stands : goal.returns-then-rests-clause-stands
+returns-then-rests-clause-stands g c life reported deed s =
+    let train = c.args.seen.now.train in
+    let level = c.args.seen.now.level in
+    let event : SupervisionEntry = record (initial (record reported { train = Some train; entered = None }) deed) { level = level } in
+    rested life reported deed train level s (c.rests.ensures (grown life event) s (search rules))

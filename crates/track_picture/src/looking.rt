@@ -72,6 +72,17 @@ impl<T: ProfileStores> TracksideOver<T> {
         }
     }
 
+    /// The end of an event, as `forget`, for a train that covers this stretch.
+    pub fn forget_passed(&mut self, train: &Stretch)
+        requires { HasReach train.now.rear }
+        ensures stands { (life : Life) (event : TrackEntry)
+            → StandsForLife T.stores self.old (grown life (record event { mark = None }))
+            → StandsForLife T.stores self.new (grown life (record event { mark = Some (forgetting_mark train.now) })) }
+        ensures size { size_in T.stores self.new ≤ size_in T.stores self.old }
+    {
+        self.forget_before(forgetting_mark(train));
+    }
+
     /// The end of an event, for a train of some length (0 where it isn't known): the track is forgotten that lies more
     /// than a kilometre behind its minimum safe rear.
     pub fn forget(&mut self, length: Length)
@@ -82,6 +93,6 @@ impl<T: ProfileStores> TracksideOver<T> {
         ensures size { size_in T.stores self.new ≤ size_in T.stores self.old }
     {
         let stretch = self.parts.place.stretch(length);
-        self.forget_before(forgetting_mark(&stretch));
+        self.forget_passed(&stretch);
     }
 }

@@ -12,9 +12,9 @@ use speed_profile::{Ahead, CategorySpeeds, limit_on, next_after};
 use track_store::{Profile, ProfileStore};
 use units::{Mph, Permille, Stretch};
 
-/// The limit that holds wherever the train covers no more than one stretch, from whose front it is seen what lies ahead,
-/// and no less than another one. None where it isn't found to be the same. A train whose front isn't there yet meets before
-/// that only what is over the first stretch, and can brake for all beyond.
+/// The limit of a train wherever it covers no more than the widest stretch and no less than the narrowest one, where what
+/// lies ahead is that of the widest stretch's front. None where no single limit is found. Up to that front a train meets
+/// only what lies over the widest stretch, and it can brake for all beyond.
 pub fn limit_between<S: ProfileStore<CategorySpeeds>, G: Profile<Permille>>(
     widest: &Stretch,
     narrowest: &Stretch,
@@ -28,11 +28,8 @@ pub fn limit_between<S: ProfileStore<CategorySpeeds>, G: Profile<Permille>>(
         return None;
     }
     let beyond = next_after(widest.max_front())?;
-    if !ahead
-        .track
-        .speeds
-        .is_known_throughout(narrowest.max_front(), beyond)
-    {
+    let speeds = ahead.track.speeds;
+    if !speeds.is_known_throughout(narrowest.max_front(), beyond) {
         return None;
     }
     if limit_on(narrowest, ahead.bounds, ahead.track) != limit {

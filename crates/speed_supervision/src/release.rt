@@ -32,7 +32,7 @@ pub fn released_by<S: Profile<CategorySpeeds>, G: Profile<Permille>>(
     to_end.max(to_location.min(release_speed(end.release, national)))
 }
 
-/// A target.
+/// A place with the greatest speed there.
 pub fn target(place: Cm, speed: Mph) -> Target
     ensures { result ≡ record { place = place; speed = speed } }
 {

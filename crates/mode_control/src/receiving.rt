@@ -1,5 +1,8 @@
 //! What an input does, sentence by sentence in the order of one event.
-ghost use Rattle.std.specs.Prelude.{◌≡◌, ◌≤◌, IsOk, OnOk, OnErr, None};
+ghost use Rattle.std.specs.Prelude.{◌≡◌, ◌≤◌, ◌∷◌, IsOk, OnOk, OnErr, None};
+ghost use Rattle.units.specs.Limits.{HasReach};
+ghost use Rattle.track_picture.specs.Sentences.{span_with};
+ghost use Rattle.mode_control.specs.History.{tracks};
 ghost use Rattle.track_picture.specs.StandsFor.{size_in};
 ghost use Rattle.track_picture.specs.Steps.{packets_by, HasSpaceFor};
 ghost use Rattle.mode_control.specs.Entry.{SupervisionEntry, initial};
@@ -7,6 +10,7 @@ ghost use Rattle.mode_control.specs.Life.{Life, grown};
 ghost use Rattle.mode_control.specs.Sentences.{reported, deed_of, passed_track_is_forgotten, entry_of};
 ghost use Rattle.mode_control.specs.StandsFor.{StandsForLife};
 
+use crate::seeing::Seen;
 use crate::state::SupervisionOver;
 use events::Input;
 use track_picture::ProfileStores;
@@ -28,14 +32,22 @@ impl<T: ProfileStores> SupervisionOver<T> {
         Ok(())
     }
 
-    // The track far behind the train is forgotten.
-    fn forget(&mut self)
+    // The track far behind the train is forgotten. Where the train was seen counts while it has the same length.
+    fn forget(&mut self, seen: &Seen)
+        requires { HasReach seen.now.train.rear }
         ensures stands { (life : Life) (event : SupervisionEntry)
             → StandsForLife T.stores self.old (grown life (record event { track = record event.track { mark = None } }))
+            → seen.now.train ≡ span_with seen.now.length (event.track ∷ tracks life.entries)
             → StandsForLife T.stores self.new (grown life (passed_track_is_forgotten (grown life event) event)) }
         ensures size { size_in T.stores self.new.track ≤ size_in T.stores self.old.track }
     {
-        self.track.forget(self.parts.length());
+        let length = self.parts.length();
+        let same = length == seen.length;
+        if same {
+            self.track.forget_passed(&seen.train);
+        } else {
+            self.track.forget(length);
+        }
     }
 
     /// All that an input does. Where memory is refused, nothing changes; none is refused where there is space for what
@@ -50,7 +62,7 @@ impl<T: ProfileStores> SupervisionOver<T> {
         self.begin(input)?;
         let seen = self.see();
         self.turn(&seen);
-        self.forget();
+        self.forget(&seen);
         Ok(())
     }
 }

@@ -30,3 +30,4 @@ returns-clause-stands g c life s =
     (subst (λ (x : Span × Option TrainLevel). StandsForLife g.T.ProfileStores.stores c.see-seen.new.self
     (grown life (seen_at event x))) (λ i. (sym train i, sym level i)) saw)) in
     c.forget.ensures.stands life (written (the_train_is_seen ∷ the_mode_changes ∷ the_calls_are_settled ∷ []) life event) turned
+    (c.see-seen.ensures.length life event began)

@@ -10,38 +10,14 @@ use reasons::{Runs, TripReport};
 pub(crate) fn since_of(runs: &Runs) -> [u64; 10]
     ensures { result ≡ since_of runs.now }
 {
-    let since = |cause| or_zero(runs.first(cause));
-    [
-        since(BrakeCause::NotRevalidated),
-        since(BrakeCause::InTrip),
-        since(BrakeCause::InSystemFailure),
-        since(BrakeCause::OwesTrip),
-        since(BrakeCause::FarTooFast),
-        since(BrakeCause::RolledTooFar),
-        since(BrakeCause::ServiceBrakeRequested),
-        since(BrakeCause::TooFast),
-        since(BrakeCause::MustStand),
-        since(BrakeCause::OwesTooLong),
-    ]
+    BrakeCause::ALL.map(|cause| or_zero(runs.first(cause)))
 }
 
 /// Whether each holds.
 pub(crate) fn holds_of(runs: &Runs) -> [u8; 10]
     ensures { result ≡ holds_of runs.now }
 {
-    let holds = |cause| flag(runs.first(cause));
-    [
-        holds(BrakeCause::NotRevalidated),
-        holds(BrakeCause::InTrip),
-        holds(BrakeCause::InSystemFailure),
-        holds(BrakeCause::OwesTrip),
-        holds(BrakeCause::FarTooFast),
-        holds(BrakeCause::RolledTooFar),
-        holds(BrakeCause::ServiceBrakeRequested),
-        holds(BrakeCause::TooFast),
-        holds(BrakeCause::MustStand),
-        holds(BrakeCause::OwesTooLong),
-    ]
+    BrakeCause::ALL.map(|cause| flag(runs.first(cause)))
 }
 
 fn trip_number(cause: TripCause) -> u8

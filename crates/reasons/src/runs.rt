@@ -43,20 +43,8 @@ impl Runs {
     fn held(&self, causes: &BrakeCauses, number: u64) -> Runs
         ensures { result ≡ runs_held self.now (marked causes.now) number }
     {
-        let run = |cause| self.run_held(cause, causes, number);
         Runs {
-            firsts: [
-                run(BrakeCause::NotRevalidated),
-                run(BrakeCause::InTrip),
-                run(BrakeCause::InSystemFailure),
-                run(BrakeCause::OwesTrip),
-                run(BrakeCause::FarTooFast),
-                run(BrakeCause::RolledTooFar),
-                run(BrakeCause::ServiceBrakeRequested),
-                run(BrakeCause::TooFast),
-                run(BrakeCause::MustStand),
-                run(BrakeCause::OwesTooLong),
-            ],
+            firsts: BrakeCause::ALL.map(|cause| self.run_held(cause, causes, number)),
         }
     }
 

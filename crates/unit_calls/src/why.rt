@@ -111,18 +111,7 @@ fn mark_of(causes: &BrakeCauses, cause: BrakeCause) -> u8
 fn holds_in(causes: &BrakeCauses) -> [u8; 10]
     ensures { result ≡ holds_in (marked causes.now) }
 {
-    [
-        mark_of(causes, BrakeCause::NotRevalidated),
-        mark_of(causes, BrakeCause::InTrip),
-        mark_of(causes, BrakeCause::InSystemFailure),
-        mark_of(causes, BrakeCause::OwesTrip),
-        mark_of(causes, BrakeCause::FarTooFast),
-        mark_of(causes, BrakeCause::RolledTooFar),
-        mark_of(causes, BrakeCause::ServiceBrakeRequested),
-        mark_of(causes, BrakeCause::TooFast),
-        mark_of(causes, BrakeCause::MustStand),
-        mark_of(causes, BrakeCause::OwesTooLong),
-    ]
+    BrakeCause::ALL.map(|cause| mark_of(causes, cause))
 }
 
 // The target ahead that decides the limit.

@@ -1,4 +1,4 @@
-use Rattle.std.proofs.Common.{◌≡◌, ℕ, Option, None, slice_index_or, refl, ap, ◌∙◌}
+use Rattle.std.proofs.Common.{◌≡◌, ℕ, None, slice_index_or, refl, ap, ◌∙◌}
 use Rattle.kernel.specs.declared.causes.BrakeCause.{BrakeCause}
 use Rattle.kernel.specs.declared.causes.BrakeCause.TheVariants as cause
 use Rattle.kernel.specs.Lives.{Story}
@@ -8,15 +8,7 @@ use Rattle.reasons.proofs.runs.Runs.first.Goals as goal
 
 found : (story : Story) (why : BrakeCause) → first_in (runs_of story) why ≡ run_of why story
 found story cause.NotRevalidated = refl
-found story cause.InTrip = refl
-found story cause.InSystemFailure = refl
-found story cause.OwesTrip = refl
-found story cause.FarTooFast = refl
-found story cause.RolledTooFar = refl
-found story cause.ServiceBrakeRequested = refl
-found story cause.TooFast = refl
-found story cause.MustStand = refl
-found story cause.OwesTooLong = refl
+found story _ = refl
 
 pub returns-clause-value : goal.returns-clause-value
 returns-clause-value c = ap (λ (place : ℕ). slice_index_or c.args.self.now.firsts place None) c.place.ensures

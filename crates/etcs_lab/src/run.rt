@@ -1,9 +1,8 @@
 //! The command `run`.
 
 use crate::status::{Status, no_memory, unread_for, unwritten};
-use lab_why::{FlushError, LateError, LiveError, OpenError, PlayedLife, play};
+use lab_why::{LateError, PlayedLife, play};
 use line_sinks::JsonLines;
-use onboard::AcceptError;
 use simulator::{Scenario, ScenarioFault, ends_of, events_of};
 use std::alloc::Global;
 use std::fs;
@@ -29,26 +28,6 @@ fn refused<R: Eprint>(rt: &R, path: &str, fault: ScenarioFault) -> Status {
     Status::Refused
 }
 
-// Whether a life stopped since memory was refused.
-fn is_memory(error: &LiveError) -> bool {
-    matches!(
-        error,
-        LiveError::Open(OpenError::NoMemory)
-            | LiveError::Accept(_, AcceptError::NoMemory)
-            | LiveError::NoMemory(_)
-    )
-}
-
-fn status_of(stopped: Option<LiveError>) -> Status {
-    match stopped {
-        None => Status::Whole,
-        Some(
-            LiveError::Open(OpenError::DeviceFault) | LiveError::Flush(_, FlushError::DeviceFault),
-        ) => Status::Device,
-        Some(_) => Status::Refused,
-    }
-}
-
 /// Plays a scenario on an image in memory, reports each output that is released, and answers the status.
 pub(crate) fn played<R: Files<File = File> + AllocGlobal + Eprint, W: Write>(
     rt: &R,
@@ -58,8 +37,8 @@ pub(crate) fn played<R: Files<File = File> + AllocGlobal + Eprint, W: Write>(
     let bytes = fs::read(rt, path).map_err(|error| unread_for(rt, path, &error))?;
     let life = life_of(rt.alloc(), &Scenario { bytes }).map_err(|fault| refused(rt, path, fault))?;
     match play(rt.alloc(), &life, &mut JsonLines::new(rt.alloc(), out)) {
-        Ok(Some(error)) if is_memory(&error) => Err(no_memory(rt, path)),
-        Ok(stopped) => Ok(status_of(stopped)),
+        Ok(None) => Ok(Status::Whole),
+        Ok(Some(_)) => Ok(Status::Refused),
         Err(LateError::Write) => Err(unwritten(rt, path)),
         Err(LateError::NoMemory) => Err(no_memory(rt, path)),
     }

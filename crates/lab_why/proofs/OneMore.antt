@@ -18,7 +18,8 @@ use Rattle.lab_why.specs.Played.{step_at}
 use Rattle.lab_why.specs.Playing.{inputs_from, IsLine, AreLines}
 use Rattle.lab_why.specs.declared.played.PlayLine.{PlayLine}
 use Rattle.lab_why.proofs.Counting.{count_accepted, its_place}
-use Rattle.lab_why.proofs.Releasing.{initial, same_end, count_released, up_to}
+use Rattle.scenario_player.proofs.Releasing.{initial}
+use Rattle.lab_why.proofs.Releasing.{same_end, count_released, up_to}
 
 module _ (cold : Cold) (steps : List Step) (place : ℕ) where
   -- the events up to a step of the life

@@ -9,22 +9,16 @@ use Rattle.events.specs.declared.input.Event.TheVariants as an_event
 use Rattle.events.specs.declared.step.Step.{Step}
 use Rattle.events.specs.declared.step.Step.TheVariants.{Accept, Flush}
 use Rattle.mode_table.specs.declared.statuses.Cold.{Cold}
+use Rattle.scenario_player.proofs.Releasing.{initial, length_pairs}
 use Rattle.unit_start.specs.Events.{pair_of, pairs_of}
 use Rattle.unit_start.specs.Releases.{Release}
 use Rattle.whole_lives.specs.Runs.{accept_one, accepted_by, flushed_by, durable_by}
 use Rattle.whole_lives.specs.declared.errors.LiveError.{LiveError}
 use Rattle.whole_lives.specs.declared.errors.LiveError.TheVariants as a_live
 use Rattle.whole_lives.proofs.Chains.{accepted_on}
-use Rattle.unit_start.proofs.Lists.{empty_of}
 use Rattle.lab_why.specs.Playing.{carried_out}
 
 -- ---- of lists of events, what is released
-
-length_pairs : (events : List Event) → length (pairs_of events) ≡ length events
-length_pairs [] = refl
-length_pairs (event ∷ events) =
-    let more : length (pairs_of events) ≡ length events = length_pairs events in
-    omega (arith, more, length-append (pairs_of events) (pair_of events event ∷ []))
 
 -- what is released of the older part of a list is what is released of the list
 older_pair : (more events : List Event) (k : ℕ) (d : Release) → k < length events → get_or (pairs_of (more ++ events)) k d ≡ get_or (pairs_of events) k d
@@ -52,9 +46,6 @@ same_end all more one others other is also long =
     ∙ drop-append_seam others other
 
 -- ---- what was accepted up to an input
-
-abbrev pub initial : Cold → List Event
-initial word = an_event.PowerUp word ∷ []
 
 -- the input, after all that was accepted before it, is where it was accepted
 pub up_to : (events : List Event) (first rest : List Step) → accepted_by events (first ++ rest) ≡ accepted_by [] rest ++ accepted_by events first
@@ -101,18 +92,3 @@ carried_older events steps (Some (a_live.Open e)) = (accepted_by [] steps, accep
 carried_older events steps (Some (a_live.Accept k e)) = durable_is_older events steps k
 carried_older events steps (Some (a_live.Flush k e)) = durable_is_older events steps k
 carried_older events steps (Some (a_live.NoMemory k)) = durable_is_older events steps k
-
--- what is durable goes on from what there was
-flushed_on : (d a events : List Event) (steps : List Step) → flushed_by (d ++ events) (a ++ events) steps ≡ flushed_by d a steps ++ events
-flushed_on d a events [] = refl
-flushed_on d a events (Accept input ∷ steps) = flushed_on d (an_event.Input input ∷ a) events steps
-flushed_on d a events (Flush ∷ steps) = flushed_on a a events steps
-
--- where nothing was released after one power-up, nothing is durable after another one
-pub nothing_durable : (word other : Cold) (steps : List Step) → pairs_of (durable_by (initial word) steps) ≡ pairs_of (initial word) ++ [] → durable_by (initial other) steps ≡ initial other
-nothing_durable word other steps none =
-    let count : length (durable_by (initial word) steps) ≡ 1 = count_released word (durable_by (initial word) steps) [] none in
-    let more : length (durable_by (initial word) steps) ≡ length (durable_by [] steps) + 1 =
-    ap length (flushed_on [] [] (initial word) steps) ∙ length-append (durable_by [] steps) (initial word) in
-    let empty : durable_by [] steps ≡ [] = empty_of (durable_by [] steps) (omega (arith, count, more)) in
-    flushed_on [] [] (initial other) steps ∙ ap (λ (l : List Event). l ++ initial other) empty

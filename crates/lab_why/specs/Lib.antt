@@ -1,7 +1,6 @@
 pub mod Courses
 pub mod Demanding
 pub mod Groups
-pub mod Images
 pub mod Known
 pub mod Lines
 pub mod Played

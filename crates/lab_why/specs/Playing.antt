@@ -3,7 +3,7 @@
 -- Reported elsewhere, and taken for granted here: the values of a line (`output_line`, in Played), what of a life is
 -- durable and what is released of it (`durable_by`, `pair_of`, in onboard), and what decides a limit (`IsLimitCause`, in
 -- speed_supervision), where of several of equal force one is named.
-use Rattle.std.specs.Prelude.{◌≡◌, ◌⊎◌, ℕ, ◌+◌, ◌-◌, Option, Some, None, List, [], ◌∷◌, ◌++◌, length, map, take, slice_index}
+use Rattle.std.specs.Prelude.{◌≡◌, ℕ, IsTrue, ◌+◌, ◌-◌, Option, Some, None, List, [], ◌∷◌, ◌++◌, length, map, take, slice_index}
 use Rattle.std.specs.Option.{option_map_or}
 use Rattle.events.specs.declared.input.Event.{Event}
 use Rattle.events.specs.declared.input.Event.TheVariants.{PowerUp, Input}
@@ -18,9 +18,8 @@ use Rattle.unit_start.specs.Releases.{Release}
 use Rattle.whole_lives.specs.Runs.{durable_by}
 use Rattle.whole_lives.specs.Stops.{step_of, AllStand, Stopped}
 use Rattle.onboard.specs.Progress.{starting_with}
+use Rattle.scenario_player.specs.Playing.{is_refusal}
 use Rattle.whole_lives.specs.declared.errors.LiveError.{LiveError}
-use Rattle.whole_lives.specs.declared.errors.LiveError.TheVariants as a_live
-use Rattle.unit_start.specs.declared.errors.OpenError.TheVariants as an_open
 use Rattle.lab_why.specs.Played.{step_at, first_line, output_line, last_line}
 use Rattle.lab_why.specs.declared.played.PlayLine.{PlayLine}
 use Rattle.lab_why.specs.declared.playing.PlayedLife.{PlayedLife}
@@ -66,8 +65,7 @@ pub record IsPlayed (life : PlayedLife) (stopped : Option LiveError) (lines : Li
   pub outputs_are : AreLines (input_steps life) (released_in life stopped) outputs
   pub lines_are : lines ≡ first_line life.cold (length life.ends.items) ∷ outputs ++ last_line life.ends.items stopped ∷ []
 
--- How a life may end on an empty image: no step has a cause to be refused; or it stopped at the first one that has, or
--- for memory or the device; or the device failed as it was opened.
+-- How a life may end on an empty image: no step has a cause to be refused, or it stopped at the first one that has.
 abbrev pub PlayEnds : List Step → Option LiveError → Type 0
 PlayEnds steps None = AllStand (starting_with 1) steps
-PlayEnds steps (Some error) = (error ≡ a_live.Open an_open.DeviceFault) ⊎ Stopped (starting_with 1) steps error
+PlayEnds steps (Some error) = IsTrue (is_refusal error) × Stopped (starting_with 1) steps error

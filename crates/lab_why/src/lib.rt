@@ -25,7 +25,6 @@ pub use known::{AuthorityLine, FrontLine, GroupName, KnownLine, LevelLine, Train
 pub use known_lists::{AreaLine, LinkLine, RestrictionLine};
 pub use line::{Answer, Causes, EventLine, WhyLine};
 pub use lives::{LateError, WalkError};
-pub use onboard::{FlushError, OpenError};
 pub use played::{
     DoneLine, LifeEnd, OutputLine, PlayLine, PlayedOutput, Scenario, ScenarioLine, StoppedLine,
 };

@@ -3,28 +3,23 @@ ghost use Rattle.std.specs.Prelude.{◌≡◌, ◌∷◌, ◌++◌, [], List, If
 ghost use Rattle.events.specs.declared.input.Event.TheVariants.{PowerUp};
 ghost use Rattle.line_sinks.specs.Sinks.{TakesAll};
 ghost use Rattle.unit_start.specs.Events.{pairs_of};
-ghost use Rattle.lab_why.specs.Images.{IsEmpty};
 ghost use Rattle.lab_why.specs.Playing.{released_in, IsPlayed, PlayEnds};
 ghost use Rattle.lab_why.specs.declared.played.PlayLine.{PlayLine as a_line};
 
 use crate::played::{PlayLine, first_line, last_line};
 use crate::reporting::report_released;
-use disk::Memory;
 use events::Step;
-use journal::format;
 use line_sinks::LineSink;
 use lives::LateError;
 use mode_table::Cold;
 use onboard::Released;
+use scenario_player::play_first;
 use std::alloc::Global;
 use units::NoMemory;
-use whole_lives::{LiveError, live};
+use whole_lives::LiveError;
 
 /// How many blocks the image has, as few as an image may have.
 const BLOCKS: u32 = 2;
-
-/// How many sectors that are.
-const SECTORS: u64 = 13;
 
 /// A life that a scenario asks for (this project's profile).
 #[derive(Drop)]
@@ -44,37 +39,16 @@ struct Lived {
     stopped: Option<LiveError>,
 }
 
-// How many flushes the steps have.
-fn flushes_in(steps: &[Step]) -> u64 {
-    steps
-        .iter()
-        .filter(|step| matches!(step, Step::Flush))
-        .count() as u64
-}
-
-// An empty image in memory, with room for the calls of a life of these steps.
-fn empty_image(alloc: Global, steps: &[Step]) -> Result<Memory, NoMemory>
-    ensures { IfOk result IsEmpty }
-{
-    let calls = flushes_in(steps).saturating_add(16).saturating_mul(8);
-    let mut disk = Memory::new(alloc, SECTORS, calls, calls)?;
-    match format(&mut disk, BLOCKS) {
-        Ok(()) => Ok(disk),
-        Err(_) => Err(NoMemory),
-    }
-}
-
 // Runs a life on an empty image.
 fn run_life(alloc: Global, life: &PlayedLife) -> Result<Lived, NoMemory>
-    ensures released { IfOk result (λ played. pairs_of (released_in life.now played.stopped) ≡ pairs_of (PowerUp life.now.cold ∷ []) ++ played.released.items) }
-    ensures ends { IfOk result (λ played. PlayEnds life.now.steps.items played.stopped) }
+    ensures released { IfOk result (λ lived. pairs_of (released_in life.now lived.stopped) ≡ pairs_of (PowerUp life.now.cold ∷ []) ++ lived.released.items) }
+    ensures ends { IfOk result (λ lived. PlayEnds life.now.steps.items lived.stopped) }
 {
-    let steps = life.steps.as_slice();
-    let disk = empty_image(alloc, steps)?;
-    let mut released = Vec::new(alloc);
-    let (_disk, ended) = live(alloc, disk, life.cold, steps, &mut released);
-    let stopped = ended.err();
-    Ok(Lived { released, stopped })
+    let played = play_first(alloc, BLOCKS, life.cold, life.steps.as_slice(), 0)?;
+    Ok(Lived {
+        released: played.released,
+        stopped: played.ended.err(),
+    })
 }
 
 // Reports what a life released, and how it ended.
@@ -96,7 +70,7 @@ fn describe<S: LineSink<PlayLine>>(
 /// Plays a life on an empty image in memory, and hands to a sink a line before the first output, one of each output that
 /// is released, with the step of the scenario that it comes from and its causes, and a last one, which says whether the
 /// life came to its end (this project's profile). It answers why it didn't. Write is an error of the sink; NoMemory where
-/// memory is refused for the image or a line.
+/// memory is refused for the life or a line.
 pub fn play<S: LineSink<PlayLine>>(
     alloc: Global,
     life: &PlayedLife,

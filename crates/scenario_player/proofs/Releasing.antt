@@ -9,7 +9,7 @@ use Rattle.unit_start.specs.Events.{pair_of, pairs_of}
 use Rattle.unit_start.proofs.Lists.{empty_of}
 use Rattle.whole_lives.specs.Runs.{flushed_by, durable_by}
 
-length_pairs : (events : List Event) → length (pairs_of events) ≡ length events
+pub length_pairs : (events : List Event) → length (pairs_of events) ≡ length events
 length_pairs [] = refl
 length_pairs (event ∷ events) =
     let more : length (pairs_of events) ≡ length events = length_pairs events in

@@ -9,7 +9,7 @@ mod player;
 
 pub use error::PlayError;
 pub use image::image_of;
-pub use life::{Played, play_life};
+pub use life::{Played, play_first};
 pub use onboard::Released;
 pub use player::{calls_for, play, play_after};
 pub use whole_lives::LiveError;

@@ -1,11 +1,12 @@
 //! One life on a journal in memory.
 ghost use Rattle.std.specs.Prelude.{◌≡◌, ℕ, ◌≤◌, List, IfOk};
-ghost use Rattle.blocks.specs.FirstSector.{least_slots};
+ghost use Rattle.blocks.specs.FirstSector.{least_slots, most_slots};
 ghost use Rattle.disk.specs.Memory.{memory_state};
 ghost use Rattle.events.specs.declared.input.Event.{Event};
 ghost use Rattle.unit_start.specs.Lives.{IsReady};
 ghost use Rattle.scenario_player.specs.Playing.{is_refusal, is_played, IsEmpty, IsPlayed, IsPlayedAfter};
 
+use crate::image::{calls_of, empty_journal};
 use disk::Memory;
 use events::Step;
 use mode_table::Cold;
@@ -47,7 +48,7 @@ fn is_played(ended: &Result<(), LiveError>) -> bool
 
 /// Plays the life of these steps on a disk. `cold` says whether the train moved without power. NoMemory where memory is
 /// refused for the journal, for an event or for an output. A life that stopped for a cause of its own is played.
-pub fn play_life(
+pub(crate) fn play_life(
     alloc: Global,
     disk: Memory,
     cold: Cold,
@@ -75,4 +76,23 @@ pub fn play_life(
         released,
         disk,
     })
+}
+
+/// Plays the life of these steps on an empty journal of so many slots, in memory, with capacity for so many calls of later
+/// lives. NoMemory where memory is refused. A life that stopped for a cause of its own is played. The caller owes a number
+/// of slots that a journal has.
+pub fn play_first(
+    alloc: Global,
+    slots: u32,
+    cold: Cold,
+    steps: &[Step],
+    later_calls: u64,
+) -> Result<Played, NoMemory>
+    requires slots { (least_slots ≤ slots) × (slots ≤ most_slots) }
+    ensures { IfOk result (λ played. IsPlayed slots cold steps.now played.ended played.released.items
+        (memory_state played.disk)) }
+{
+    let calls = calls_of(slots, steps).saturating_add(later_calls);
+    let disk = empty_journal(alloc, slots, calls)?;
+    play_life(alloc, disk, cold, steps)
 }

@@ -8,8 +8,8 @@ ghost use Rattle.scenario_player.specs.Playing.{cold_by, PlaysOne, PlaysAfter};
 ghost use Rattle.scenario_player.specs.Refusals.{HasNoJournal, IsCause, IsCauseAfter};
 
 use crate::error::{PlayError, error_of};
-use crate::image::{calls_of, empty_journal};
-use crate::life::{Played, play_life};
+use crate::image::calls_of;
+use crate::life::{Played, play_first, play_life};
 use blocks::{LEAST_SLOTS, MOST_SLOTS};
 use disk::Memory;
 use mode_table::Cold;
@@ -54,16 +54,16 @@ pub fn play(
         return Err(PlayError::BadSlots);
     }
     match events_of(alloc, scenario) {
-        Ok((own_cold, steps)) => {
-            let calls = calls_of(slots, steps.as_slice()).saturating_add(later_calls);
-            let Ok(disk) = empty_journal(alloc, slots, calls) else {
-                return Err(PlayError::NoMemory);
-            };
-            match play_life(alloc, disk, cold_by(given, own_cold), steps.as_slice()) {
-                Ok(played) => Ok(played),
-                Err(_) => Err(PlayError::NoMemory),
-            }
-        }
+        Ok((own_cold, steps)) => match play_first(
+            alloc,
+            slots,
+            cold_by(given, own_cold),
+            steps.as_slice(),
+            later_calls,
+        ) {
+            Ok(played) => Ok(played),
+            Err(_) => Err(PlayError::NoMemory),
+        },
         Err(fault) => Err(error_of(fault)),
     }
 }

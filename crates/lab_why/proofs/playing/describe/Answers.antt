@@ -5,7 +5,8 @@ use Rattle.unit_start.specs.Events.{pairs_of}
 use Rattle.unit_start.specs.Releases.{Release}
 use Rattle.lab_why.specs.Played.{first_line, last_line}
 use Rattle.lab_why.specs.Playing.{released_in}
-use Rattle.lab_why.proofs.Releasing.{initial, carried_older}
+use Rattle.scenario_player.proofs.Releasing.{initial}
+use Rattle.lab_why.proofs.Releasing.{carried_older}
 use Rattle.lab_why.proofs.playing.describe.Goals as goal
 
 pub returns : goal.returns

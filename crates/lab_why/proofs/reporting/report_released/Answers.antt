@@ -13,7 +13,8 @@ use Rattle.lab_why.specs.Played.{step_at}
 use Rattle.lab_why.specs.Playing.{input_steps, AreLines}
 use Rattle.lab_why.proofs.Counting.{after_ended, step_later}
 use Rattle.lab_why.proofs.OneMore.{up_to_here, all_after, one_on, input_step, all_reported, none_left, one_line}
-use Rattle.lab_why.proofs.Releasing.{initial, its_release}
+use Rattle.scenario_player.proofs.Releasing.{initial}
+use Rattle.lab_why.proofs.Releasing.{its_release}
 use Rattle.lab_why.proofs.reporting.report_released.Goals as goal
 
 pub loop-place-init : goal.loop-place-init

@@ -7,7 +7,7 @@ use Rattle.whole_lives.specs.Runs.{accepted_by}
 use Rattle.reasons.specs.Reported.{Reasons}
 use Rattle.lab_why.specs.Played.{step_at}
 use Rattle.lab_why.specs.Playing.{input_steps, AreLines}
-use Rattle.lab_why.proofs.Releasing.{initial}
+use Rattle.scenario_player.proofs.Releasing.{initial}
 use Rattle.lab_why.specs.declared.played.PlayLine.{PlayLine}
 use Rattle.lab_why.proofs.reporting.report_released.Given as goal
 

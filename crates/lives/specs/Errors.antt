@@ -1,8 +1,10 @@
 -- Why a walk over an image did not come to its end (this project's profile).
-use Rattle.std.specs.Prelude.{◌≡◌, ◌≢◌, ◌⊎◌, ℕ, ◌+◌, ◌*◌, List, Bool, true, false, Result, Ok, Err, Some, None}
+use Rattle.std.specs.Prelude.{◌⊎◌, ℕ, List, Bool, true, false, Result, Ok, Err}
 use Rattle.std.specs.declared.io.ErrorKind.{ErrorKind}
 use Rattle.std.specs.declared.io.ErrorKind.TheVariants.{OutOfMemory}
-use Rattle.blocks.specs.FirstSector.{slots_reported}
+use Rattle.journal.specs.declared.errors.OpenError.{OpenError}
+use Rattle.journal.specs.declared.errors.OpenError.TheVariants as an_open
+use Rattle.journal.specs.Journals.{IsHeaderRefusal}
 use Rattle.ring.specs.Slots.{IsFormatted}
 use Rattle.lives.specs.declared.errors.LateError.{LateError}
 use Rattle.lives.specs.declared.errors.LateError.TheVariants as a_late
@@ -22,11 +24,17 @@ walk_failed (Err e) = is_device e
 abbrev pub IsImageOf : ℕ → List ℕ → Type 0
 IsImageOf sectors first = (slots : ℕ) × IsFormatted sectors slots first
 
+-- why a first sector was refused, for the caller of a walk
+abbrev pub unopened : OpenError → WalkError
+unopened an_open.DeviceFault = an_error.DeviceFault
+unopened an_open.NotFormatted = an_error.NotFormatted
+unopened an_open.Damaged = an_error.Damaged
+
 -- what an error says of the first sector and the size of the disk
 abbrev pub IsRefusal : ℕ → List ℕ → WalkError → Type 0
-IsRefusal sectors first an_error.DeviceFault = Unit {0}
-IsRefusal sectors first an_error.NotFormatted = (sectors ≡ 0) ⊎ (slots_reported first ≡ None)
-IsRefusal sectors first an_error.Damaged = (slots : ℕ) × (slots_reported first ≡ Some slots) × (sectors ≢ 1 + 6 * slots)
+IsRefusal sectors first an_error.DeviceFault = IsHeaderRefusal sectors first an_open.DeviceFault
+IsRefusal sectors first an_error.NotFormatted = IsHeaderRefusal sectors first an_open.NotFormatted
+IsRefusal sectors first an_error.Damaged = IsHeaderRefusal sectors first an_open.Damaged
 IsRefusal sectors first _ = ⊥
 
 -- an error that may come after the first sector

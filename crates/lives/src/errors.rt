@@ -1,8 +1,9 @@
 //! Errors.
 ghost use Rattle.std.specs.Prelude.{◌≡◌, false};
 ghost use Rattle.std.specs.IoError.{error_kind};
-ghost use Rattle.lives.specs.Errors.{is_device, writing_stopped, walk_error, IsLate};
+ghost use Rattle.lives.specs.Errors.{is_device, unopened, writing_stopped, walk_error, IsLate};
 
+use journal::OpenError;
 use std::io;
 use std::io::ErrorKind;
 
@@ -19,6 +20,18 @@ pub enum WalkError {
     Write,
     /// Memory was refused.
     NoMemory,
+}
+
+impl From<OpenError> for WalkError {
+    ghost from_gives = { λ error walk. walk ≡ unopened error };
+
+    fn from(error: OpenError) -> WalkError {
+        match error {
+            OpenError::DeviceFault => WalkError::DeviceFault,
+            OpenError::NotFormatted => WalkError::NotFormatted,
+            OpenError::Damaged => WalkError::Damaged,
+        }
+    }
 }
 
 /// Why a visitor stopped a walk (this project's profile).

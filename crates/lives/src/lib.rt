@@ -10,7 +10,7 @@ mod visit;
 mod walking;
 
 pub use errors::{LateError, WalkError, late};
-pub use reading::{held, slots_of};
+pub use reading::held;
 pub use seeing::number_of_life;
 pub use visit::{Seen, Unknown, Visit};
 pub use walking::{walk, walk_from};

@@ -1,4 +1,3 @@
-pub mod IndicationFlags
 pub mod Units
 pub mod Verdicts
 pub mod Excluding

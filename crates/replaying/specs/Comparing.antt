@@ -1,18 +1,13 @@
 -- In what a record differs first from another one of the same event, and what is kept from what else is (this project's
 -- profile). Fields are compared in the order in which they stand here.
-use Rattle.std.specs.Prelude.{◌≡◌, ◌≢◌, Bool, List, [], ◌∷◌, Option, Some, None, is_some}
+use Rattle.std.specs.Prelude.{◌≡◌, ◌≢◌, Option, Some, None, is_some}
 use Rattle.blocks.specs.declared.records.BlockRecord.{BlockRecord}
 use Rattle.blocks.specs.declared.records.Situation.{Situation}
 use Rattle.events.specs.declared.kept.Kept.{Kept}
-use Rattle.events.specs.declared.output.Indications.{Indications}
 use Rattle.replaying.specs.declared.differences.KeptField.{KeptField}
 use Rattle.replaying.specs.declared.differences.KeptField.TheVariants as kept_field
 use Rattle.replaying.specs.declared.differences.RecordField.{RecordField}
 use Rattle.replaying.specs.declared.differences.RecordField.TheVariants as a_field
-
--- what is shown, as a list
-abbrev pub indication_flags : Indications → List Bool
-indication_flags a = a.on_sight ∷ a.shunting ∷ a.level_0 ∷ a.trip ∷ a.overridden ∷ a.not_revalidated ∷ a.overspeed ∷ []
 
 -- both are reported, and differ so
 abbrev pub BothReported : (Situation → Situation → Type 0) → Option Situation → Option Situation → Type 0

@@ -1,7 +1,7 @@
 //! What a block says about an event, along with what the kernel answers to it.
 ghost use Rattle.std.specs.Prelude.{◌≡◌, ◌↔◌, IsTrue, MatchOption};
 ghost use Rattle.blocks.specs.Blocks.{event_reported};
-ghost use Rattle.replaying.specs.Comparing.{indication_flags, DiffersIn, SituationDiffers};
+ghost use Rattle.replaying.specs.Comparing.{DiffersIn, SituationDiffers};
 
 use crate::differences::RecordField;
 use blocks::{BlockRecord, Format, Situation};
@@ -36,25 +36,10 @@ fn same_brake(one: Brake, other: Brake) -> bool
     }
 }
 
-// What is shown, in the order of its fields.
-fn indication_flags(flags: &Indications) -> [bool; 7]
-    ensures { result ≡ indication_flags flags.now }
-{
-    [
-        flags.on_sight,
-        flags.shunting,
-        flags.level_0,
-        flags.trip,
-        flags.overridden,
-        flags.not_revalidated,
-        flags.overspeed,
-    ]
-}
-
 fn same_indications(one: &Indications, other: &Indications) -> bool
     ensures { IsTrue result ↔ one.now ≡ other.now }
 {
-    indication_flags(one) == indication_flags(other)
+    one.number() == other.number()
 }
 
 fn situation_differs(one: Option<Situation>, other: Option<Situation>) -> Option<RecordField>

@@ -1,13 +1,16 @@
-use Rattle.std.proofs.Common.{◌∙◌, ap, sym}
-use Rattle.std.specs.Cmp.{booleans_Decides}
-use Rattle.std.specs.Cmp.Lexicographic.{pointwise_decides}
-use Rattle.replaying.specs.Comparing.{indication_flags}
-use Rattle.replaying.proofs.IndicationFlags.{flags_same}
+use Rattle.std.proofs.Common.{◌≡◌, ◌∙◌, ap, sym}
+use Rattle.std.proofs.lemmas.Bool.{eqb-true, eq-eqb}
+use Rattle.events.specs.declared.output.Indications.{Indications}
+use Rattle.events.specs.Indications.{number_of}
+use Rattle.blocks.specs.Codes.{indications_from}
+use Rattle.blocks.proofs.Fitting.{indications_again}
 use Rattle.replaying.proofs.comparing.same_indications.Goals as goal
 
+same_shown : (a b : Indications) → number_of a ≡ number_of b → a ≡ b
+same_shown a b same = sym (indications_again a) ∙ ap indications_from same ∙ indications_again b
+
 pub returns : goal.returns
-returns c =
-    let decides = pointwise_decides booleans_Decides c.indication_flags.result c.indication_flags-2.result in (
-      λ t. flags_same c.args.one.now c.args.other.now (sym c.indication_flags.ensures ∙ decides.0 (sym c.eq.ensures ∙ t) ∙ c.indication_flags-2.ensures),
-      λ e. c.eq.ensures ∙ decides.1 (c.indication_flags.ensures ∙ ap indication_flags e ∙ sym c.indication_flags-2.ensures),
-    )
+returns c = (
+  λ t. same_shown c.args.one.now c.args.other.now (sym c.number.ensures ∙ eqb-true c.number.result c.number-2.result t ∙ c.number-2.ensures),
+  λ e. eq-eqb c.number.result c.number-2.result (c.number.ensures ∙ ap number_of e ∙ sym c.number-2.ensures),
+)

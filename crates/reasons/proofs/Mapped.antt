@@ -19,5 +19,5 @@ module _ {F A B : Type 0} (g : Mut F (A × Unit {0}) B) (f : F) (of : A → B) (
   all_mapped any maps =
       same_lists ys (map of xs) (maps.long ∙ sym (length-map xs of))
       (λ k e below.
-        let within : k < length xs = subst (λ (n : ℕ). k < n) maps.long below in
-        from (length xs) 0 maps.each k any e (omega arith) (omega (arith, within)) ∙ sym (get_or-map of xs k any e within))
+      let within : k < length xs = subst (λ (n : ℕ). k < n) maps.long below in
+      from (length xs) 0 maps.each k any e (omega arith) (omega (arith, within)) ∙ sym (get_or-map of xs k any e within))

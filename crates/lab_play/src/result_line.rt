@@ -3,6 +3,7 @@
 use crate::digits::digits_of;
 use crate::request::LineFault;
 use events::{Brake, Indications, Output};
+use line_sinks::named_indications;
 use mode_table::{Mode, TrainLevel};
 use scenario_player::{LiveError, Played, Released};
 use serde_json::Value;
@@ -127,20 +128,12 @@ fn is_same(one: &Output, other: &Output) -> bool {
 fn write_indications<W: Write>(indications: Indications, out: &mut W) -> io::Result<()> {
     out.write_all(b"[")?;
     let mut is_first = true;
-    for (is_displayed, name) in [
-        (indications.on_sight, "\"on_sight\""),
-        (indications.shunting, "\"shunting\""),
-        (indications.level_0, "\"level_0\""),
-        (indications.trip, "\"trip\""),
-        (indications.overridden, "\"overridden\""),
-        (indications.not_revalidated, "\"not_revalidated\""),
-        (indications.overspeed, "\"overspeed\""),
-    ] {
+    for (is_displayed, name) in named_indications(&indications) {
         if is_displayed {
-            if !is_first {
-                out.write_all(b",")?;
-            }
+            let front = if is_first { "\"" } else { ",\"" };
+            out.write_all(front.as_bytes())?;
             out.write_all(name.as_bytes())?;
+            out.write_all(b"\"")?;
             is_first = false;
         }
     }

@@ -13,4 +13,6 @@ pub use kept::{
     KeptValues, LevelObject, NationalObject, PositionObject, Status, TrainObject, write_ascii,
 };
 pub use sink::{JsonLines, LineSink, TextLines, take_each, take_if, take_two};
-pub use values::{level_number, write_brake, write_indications, write_level, write_mode};
+pub use values::{
+    level_number, named_indications, write_brake, write_indications, write_level, write_mode,
+};

@@ -30,13 +30,9 @@ pub fn write_level<S: Serializer>(level: &Option<TrainLevel>, out: &mut S) -> Re
     }
 }
 
-/// Sends the names of the indications that are displayed, as a list.
-pub fn write_indications<S: Serializer>(
-    indications: &Indications,
-    out: &mut S,
-) -> Result<(), S::Error> {
-    out.begin_seq(None)?;
-    for (is_displayed, name) in [
+/// Each indication: whether it is displayed, and its name.
+pub fn named_indications(indications: &Indications) -> [(bool, &'static str); 7] {
+    [
         (indications.on_sight, "on_sight"),
         (indications.shunting, "shunting"),
         (indications.level_0, "level_0"),
@@ -44,7 +40,16 @@ pub fn write_indications<S: Serializer>(
         (indications.overridden, "overridden"),
         (indications.not_revalidated, "not_revalidated"),
         (indications.overspeed, "overspeed"),
-    ] {
+    ]
+}
+
+/// Sends the names of the indications that are displayed, as a list.
+pub fn write_indications<S: Serializer>(
+    indications: &Indications,
+    out: &mut S,
+) -> Result<(), S::Error> {
+    out.begin_seq(None)?;
+    for (is_displayed, name) in named_indications(indications) {
         if is_displayed {
             out.str(name)?;
         }

@@ -195,19 +195,25 @@ fn known_line(alloc: Global, state: &State) -> Result<KnownLine, AllocError>
     ensures { (life : Life) → StandsForLife segment_stores state.now life → IfOk result (λ line. line ≡ known_line life) }
 {
     let track = state.track();
+
+    // The lists come first: at each `?` few values are owned, so that the proof is short.
+    let links_left = link_lines(alloc, track.links().left())?;
+    let mode_areas = area_lines(alloc, track.areas().as_slice())?;
+    let restrictions_in_force = restriction_lines(alloc, track.restrictions().as_slice())?;
+    let for_countries = countries_of(alloc, track.national().countries())?;
     Ok(KnownLine {
         front: front_line(&track.place()),
         group_of_fix: group_name(track.group_of_fix()),
         group_being_read: group_name(track.group_being_read()),
-        links: link_lines(alloc, track.links().left())?,
+        links: links_left,
         has_missed: track.links().has_missed(),
         is_free: track.is_free(),
         authority: authority_line(track.authority()),
-        areas: area_lines(alloc, track.areas().as_slice())?,
+        areas: mode_areas,
         announced_level: level_line(track.level()),
-        restrictions: restriction_lines(alloc, track.restrictions().as_slice())?,
+        restrictions: restrictions_in_force,
         national_values: NationalObject::of(track.national().values()),
-        countries: countries_of(alloc, track.national().countries())?,
+        countries: for_countries,
         announced_values_cm: optional_cm(track.national().announced_start()),
         train: train_line(state.driver().train_data()),
     })

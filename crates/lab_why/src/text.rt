@@ -32,21 +32,33 @@ impl fmt::Display for Answer {
     }
 }
 
+// Writes the causes of the brake that hold.
+fn write_brake_causes<W: fmt::Write>(causes: &Causes, f: &mut fmt::Formatter<W>) -> fmt::Result {
+    for cause in BrakeCause::ALL {
+        if let Some(first) = causes.runs.runs.first(cause) {
+            let (what, end) = (sentence(cause), ending(cause));
+            write!(f, "\n  because {what} (since event {first}, {end})")?;
+        }
+    }
+    Ok(())
+}
+
+// Writes why the train was tripped, while the trip is owed.
+fn write_trip<W: fmt::Write>(causes: &Causes, f: &mut fmt::Formatter<W>) -> fmt::Result {
+    let (Some(cause), Some(event)) = (causes.trip_cause, causes.trip_cause_event) else {
+        return Ok(());
+    };
+    let (why, section) = (trip_sentence(cause), trip_section(cause));
+    write!(
+        f,
+        "\n  the train was tripped: {why} (event {event}, {section})"
+    )
+}
+
 impl fmt::Display for Causes {
     fn fmt<W: fmt::Write>(&self, f: &mut fmt::Formatter<W>) -> fmt::Result {
-        for cause in BrakeCause::ALL {
-            if let Some(first) = self.runs.runs.first(cause) {
-                let (what, end) = (sentence(cause), ending(cause));
-                write!(f, "\n  because {what} (since event {first}, {end})")?;
-            }
-        }
-        if let (Some(cause), Some(event)) = (self.trip_cause, self.trip_cause_event) {
-            let (why, section) = (trip_sentence(cause), trip_section(cause));
-            write!(
-                f,
-                "\n  the train was tripped: {why} (event {event}, {section})"
-            )?;
-        }
+        write_brake_causes(self, f)?;
+        write_trip(self, f)?;
         let (what, speed) = (
             limit_sentence(self.limit_cause),
             SpeedText(self.limit_cause_speed_m_per_h),

@@ -1,6 +1,7 @@
 """Campaigns: how jobs are handed out, and what comes of those whose worker is lost."""
 import io
 import json
+import multiprocessing
 import os
 import pickle
 import random
@@ -12,6 +13,7 @@ import unittest
 from collections import Counter
 from collections.abc import Callable, Iterator
 from contextlib import redirect_stdout
+from functools import partial
 from pathlib import Path
 from types import SimpleNamespace
 from typing import Any, Self
@@ -28,7 +30,7 @@ from gaknifur.testing import soundness
 
 from .samples import AUTHORITY, InFolder, journal, record
 
-LOST = ("12", "13", "14", "16")
+LOST = ("12", "13", "14", "16", "79")
 
 
 def jobs_of(count: int, cases: int = 10) -> list[Job]:
@@ -36,11 +38,14 @@ def jobs_of(count: int, cases: int = 10) -> list[Job]:
     return [Job(str(number), "case" if number % cases == cases - 1 else "scenario", (), 64) for number in range(count)]
 
 
-def row_of(job: Job, room: Path) -> Row:
-    """The row of a job; some of them end their process."""
-    if job.name in LOST:
-        os._exit(1)
-    return {"name": job.name, "ended": "carried out", "seconds": 0.001}
+def rows_of(path: str, jobs: list[Job]) -> list[Row]:
+    """The rows of jobs, of which some end their process, after their names are added to a file."""
+    with open(path, "a") as file:
+        print(*(job.name for job in jobs), file=file)
+    for job in jobs:
+        if job.name in LOST:
+            os._exit(1)
+    return [played_of(job) for job in jobs]
 
 
 class Handed(unittest.TestCase):
@@ -82,6 +87,11 @@ class Handed(unittest.TestCase):
 
     def test_no_job(self) -> None:
         self.assertEqual(self.handed([], 1.0), [])
+
+    def test_a_lost_batch_is_halved(self) -> None:
+        jobs = jobs_of(5)
+        left = Batches([], 5, 4)
+        self.assertEqual((left.lose(jobs), left.next(), left.next(), left.next()), ([], jobs[:2], jobs[2:], []))
 
 
 class Folders(InFolder):
@@ -129,17 +139,45 @@ class Folders(InFolder):
         self.assertIn("\n  0/b.json: failed: can't be read: No such file or directory\n", printed.getvalue())
 
 
-class Lost(unittest.TestCase):
-    """Jobs that end their process."""
+class Checked(unittest.TestCase):
+    """Campaigns in which some jobs end their process."""
 
-    def test_take_no_others_with_them(self) -> None:
-        taken: list[Row] = []
-        with patch.object(campaign_jobs, "play", row_of), patch.object(campaign_jobs, "line_of", lambda job: None):
-            self.assertGreater(campaign.here(jobs_of(60), 60, 3, taken.extend), len(LOST))
-        self.assertEqual(sorted(int(row["name"]) for row in taken), list(range(60)))
+    def check(self, taken: list[Row], played: list[list[str]], count: int, lost: int) -> None:
+        """Checks the rows of a campaign, given the batches that were played, and how many of them were lost."""
+        self.assertEqual(Counter(row["name"] for row in taken), Counter(map(str, range(count))))
         self.assertEqual({row["name"]: row["ended"] for row in taken if row["ended"] != "carried out"},
                          dict.fromkeys(LOST, f"failed: its worker was lost {campaign.MOST_LOSSES} times"))
+        given_up = [names for names in played if set(names) & set(LOST)]
+        self.assertEqual(lost, len(given_up))
+        self.assertGreater(max(map(len, given_up)), 1)
+        others = Counter(name for names in played if not set(names) & set(LOST) for name in names)
+        self.assertEqual(set(others.values()), {1})
+        self.assertEqual([played.count([name]) for name in LOST], [campaign.MOST_LOSSES] * len(LOST))
 
+
+class Lost(Checked):
+    """Jobs whose process ends."""
+
+    def test_take_no_others_with_them(self) -> None:
+        """Only what was handed out together with such a job is played again."""
+        taken: list[Row] = []
+        with tempfile.NamedTemporaryFile() as file, patch.object(campaign_jobs, "play_all", partial(rows_of, file.name)):
+            lost = campaign.here(jobs_of(80, 100), 80, 3, taken.extend)
+            self.check(taken, [line.split() for line in Path(file.name).read_text().splitlines()], 80, lost)
+
+    def test_killed_at_random(self) -> None:
+        """Processes are killed again and again, also while jobs are written to them that are larger than a pipe: each job has its row."""
+        numbers, taken, files = random.Random(1), list[Row](), (("scenario.json", bytes(100_000)),)
+
+        def take(rows: list[Row]) -> None:
+            taken.extend(rows)
+            if numbers.random() < 0.1:
+                numbers.choice(multiprocessing.active_children()).kill()
+
+        with patch.object(campaign_jobs, "play_all", lambda jobs: [played_of(job) | {"seconds": 0.1} for job in jobs]):
+            lost = campaign.here([Job(str(number), "scenario", files, 64) for number in range(1000)], 1000, 3, take)
+        self.assertGreater(lost, 3)
+        self.assertEqual(Counter(row["name"] for row in taken), Counter(map(str, range(1000))))
 
     def test_only_their_program(self) -> None:
         """`etcs_lab play` dies at some scenarios: the others of a batch run again, and no process is lost."""
@@ -158,7 +196,7 @@ def dying(jobs: list[tuple[Job, bytes]], folder: Path) -> Iterator[Row]:
     for job, line in jobs:
         if line.decode() in LOST:
             raise Died("etcs_lab ended with status -9", 1)
-        yield row_of(job, folder) | {"worker": campaign_jobs.player()}
+        yield played_of(job) | {"worker": campaign_jobs.player()}
 
 
 class Future:
@@ -234,7 +272,7 @@ class Scheduler:
                 future.status = "finished"
 
 
-class Scheduled(unittest.TestCase):
+class Scheduled(Checked):
     """Jobs by the workers of a scheduler."""
 
     def test_given_back_and_lost(self) -> None:
@@ -243,15 +281,7 @@ class Scheduled(unittest.TestCase):
         with patch.dict(sys.modules, dask=dask.module(), distributed=dask.module()), patch.object(campaign_jobs, "play", played_of), \
                 patch.object(campaign_jobs, "line_of", lambda job: None):
             lost = dask_scheduler.by_scheduler(jobs_of(80, 100), 80, "tcp://none", taken.extend)
-        self.assertEqual(sorted(int(row["name"]) for row in taken), list(range(80)))
-        self.assertEqual({row["name"]: row["ended"] for row in taken if row["ended"] != "carried out"},
-                         dict.fromkeys(LOST, f"failed: its worker was lost {campaign.MOST_LOSSES} times"))
-        given_up = [names for names in dask.played if set(names) & set(LOST)]
-        self.assertEqual(lost, len(given_up))
-        self.assertGreater(max(map(len, given_up)), 1)
-        played = Counter(name for names in dask.played if not set(names) & set(LOST) for name in names)
-        self.assertEqual(set(played.values()), {1})  # what was handed out together with such a job is played again, once
-        self.assertEqual([dask.played.count([name]) for name in LOST], [campaign.MOST_LOSSES] * len(LOST))
+        self.check(taken, dask.played, 80, lost)
 
 
 ETCS = """#!/bin/sh
@@ -351,7 +381,7 @@ class Replayed(unittest.TestCase):
                 soundness.check_replay(REPLAY[:count])
 
 
-def played_of(job: Job, room: Path) -> dict[str, Any]:
+def played_of(job: Job, room: Path | None = None) -> dict[str, Any]:
     """The row of a job that was played."""
     return {"name": job.name, "ended": "carried out", "seconds": 0.001}
 

@@ -4,22 +4,20 @@ A job is only data: the bytes of its files, or the seed of a random life. A work
 common folder. A job whose worker is lost runs again, and a job that is in the table already doesn't, so an interrupted campaign
 continues. A row is the same on every worker, except for `seconds` and `worker`.
 """
+import contextlib
 import functools
-import gc
 import hashlib
 import os
 import random
 from collections import Counter
 from collections.abc import Callable, Iterable, Iterator
-from concurrent.futures import FIRST_COMPLETED, Future, ProcessPoolExecutor, wait
-from concurrent.futures.process import BrokenProcessPool
 from dataclasses import dataclass
 from pathlib import Path
 from typing import Any
 
+from .. import processes
 from ..escaping import shown
 from ..playing import Died
-from ..processes import give_up
 from ..testing import case_files
 
 Row = dict[str, Any]
@@ -30,10 +28,9 @@ COLUMNS = ("name", "job_sha256", "kind", "ended", "written_sha256", "events", "l
            "place_cm", "emergencies", "trips", "tests", "missed", "first_missed", "sound", "seconds", "worker")
 NOT_COMPARED = ("seconds", "worker")
 MOST_LOSSES = 3
-MOST_SECONDS, LEAST_SECONDS, MOST_AT_ONCE, SHARES, AHEAD, FIRST_AT_ONCE = 1.0, 0.1, 1000, 2, 2, 8
+MOST_SECONDS, LEAST_SECONDS, MOST_AT_ONCE, SHARES, FIRST_AT_ONCE = 1.0, 0.1, 1000, 2, 8
 """The greatest and the least duration of the scenarios in a batch, and their greatest number; the least number of batches for each
-player into which the remaining jobs are split; the number of batches that each player has, with the one that it runs; and the number of
-scenarios of a batch as long as no duration is known."""
+player into which the remaining jobs are split; and the number of scenarios of a batch as long as no duration is known."""
 
 
 @dataclass(frozen=True)
@@ -123,8 +120,6 @@ class Batches:
 
     def __init__(self, jobs: Iterable[Job], count: int, players: int) -> None:
         self.jobs, self.count, self.players = iter(jobs), count, players
-        self.alone: list[list[Job]] = []
-        """Batches that run again, one at a time."""
         self.again: list[list[Job]] = []
         """Batches that run again."""
         self.losses, self.lost_batches = Counter[str](), 0
@@ -151,8 +146,8 @@ class Batches:
 
     def next(self) -> list[Job]:
         """The next batch; empty if there are no more jobs."""
-        if self.alone or self.again:
-            return (self.alone or self.again).pop()
+        if self.again:
+            return self.again.pop()
         batch: list[Job] = []
         size = self.size()
         while len(batch) < size and (job := self.next_job()):
@@ -165,19 +160,19 @@ class Batches:
         self.given += len(batch)
         return batch
 
-    def lose(self, batch: list[Job], to: list[list[Job]]) -> list[Row]:
+    def lose(self, batch: list[Job]) -> list[Row]:
         """Runs a batch whose process was lost again, in halves, to find the job that ends it; returns the row of a job that was lost
         alone `MOST_LOSSES` times, and is given up."""
         self.lost_batches += 1
         middle = len(batch) // 2
         if middle:
-            to += [batch[middle:], batch[:middle]]
+            self.again += [batch[middle:], batch[:middle]]
             return []
         job, = batch
         self.losses[job.name] += 1
         if self.losses[job.name] >= MOST_LOSSES:
             return [lost(job)]
-        to.append(batch)
+        self.again.append(batch)
         return []
 
 
@@ -196,42 +191,12 @@ def lost(job: Job) -> Row:
 def here(jobs: Iterable[Job], count: int, workers: int, take: Take) -> int:
     """Runs `count` jobs in processes of this machine; returns how many batches were lost with their process."""
     from . import campaign_jobs, random_lives  # noqa: F401 (loaded once, before processes are forked)
-    left, running = Batches(jobs, count, workers), dict[Future[list[Row]], list[Job]]()
-    pool = ProcessPoolExecutor(workers, initializer=gc.freeze)
-    try:
-        while True:
-            is_broken = not hand_out(left, running, pool, workers)
-            if not running and not is_broken:
-                return left.lost_batches
-            broken: list[list[Job]] = []
-            for done in wait(running, return_when=FIRST_COMPLETED).done:
-                batch = running.pop(done)
-                try:
-                    left.learn(rows := done.result())
-                except BrokenProcessPool:
-                    broken.append(batch)
-                    continue
-                except Died:  # only the program that ran this batch
-                    rows = left.lose(batch, left.again)
-                take(rows)
-            if is_broken or broken:
-                broken += running.values()
-                running.clear()
-                give_up(pool)
-                pool = ProcessPoolExecutor(workers, initializer=gc.freeze)
-                for batch in broken:
-                    take(left.lose(batch, left.alone))
-    finally:
-        pool.shutdown(wait=False, cancel_futures=True)
-
-
-def hand_out(left: Batches, running: dict[Future[list[Row]], list[Job]], pool: ProcessPoolExecutor, workers: int) -> bool:
-    """Hands jobs to the processes; returns False if one of them was lost meanwhile."""
-    from .campaign_jobs import play_all
-    while len(running) < (1 if left.alone else AHEAD * workers) and (batch := left.next()):
-        try:
-            running[pool.submit(play_all, batch)] = batch
-        except BrokenProcessPool:
-            left.again.append(batch)
-            return False
-    return True
+    left = Batches(jobs, count, workers)
+    with contextlib.closing(processes.done(campaign_jobs.play_all, lambda: left.next() or None, workers)) as done:
+        for batch, result in done:
+            try:
+                left.learn(rows := result.result())
+            except (processes.Lost, Died):  # (`Died`: only the program that ran this batch)
+                rows = left.lose(batch)
+            take(rows)
+    return left.lost_batches

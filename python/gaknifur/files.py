@@ -18,7 +18,6 @@ import zipfile
 from collections.abc import Callable, Collection, Iterable, Iterator
 from dataclasses import dataclass
 from pathlib import Path
-from types import TracebackType
 from typing import BinaryIO, Self
 from urllib.parse import quote
 
@@ -27,7 +26,7 @@ from .escaping import shown
 from .evidence import formats
 from .journal import layout
 from .locks import lock
-from .program import DEVICE, REFUSED, Failed
+from .program import DEVICE, REFUSED, Failed, naming
 
 IMAGE_MARK = layout.MARK
 """The first bytes of an image (docs/reference/format.md)."""
@@ -102,21 +101,16 @@ def refused(path: Path, reason: str) -> Failed:
 
 def status_of(path: Path) -> os.stat_result | None:
     """The status of a file, following links; None if it doesn't exist."""
-    try:
+    with naming(path), contextlib.suppress(FileNotFoundError):
         return path.stat()
-    except FileNotFoundError:
-        return None
-    except OSError as error:
-        raise Failed(f"{path}: {error.strerror}", DEVICE) from error
+    return None
 
 
 def open_to_read(path: Path) -> BinaryIO:
     """A regular file or a block device, opened for reading under the shared lock that etcs_lab takes, so that no unit runs on
     it meanwhile."""
-    try:
+    with naming(path):
         descriptor = os.open(path, os.O_RDONLY | os.O_NONBLOCK | os.O_CLOEXEC)
-    except OSError as error:
-        raise Failed(f"{path}: {error.strerror}", DEVICE) from error
     try:
         mode = os.fstat(descriptor).st_mode
         if not stat.S_ISREG(mode) and not stat.S_ISBLK(mode):
@@ -137,10 +131,8 @@ TO_READ = os.O_RDONLY | getattr(os, "O_NONBLOCK", 0) | getattr(os, "O_CLOEXEC", 
 
 def opened(path: Path) -> BinaryIO:
     """A regular file, opened for reading. Refuses anything else by its kind, and doesn't wait for a pipe."""
-    try:
+    with naming(path):
         descriptor = os.open(path, TO_READ)
-    except OSError as error:
-        raise Failed(f"{path}: {error.strerror}", DEVICE) from error
     mode = os.fstat(descriptor).st_mode
     if not stat.S_ISREG(mode):
         os.close(descriptor)
@@ -151,11 +143,8 @@ def opened(path: Path) -> BinaryIO:
 
 def bytes_of(path: Path, most: int | None = None) -> bytes:
     """The bytes of a regular file, or its first ones."""
-    try:
-        with open(os.open(path, os.O_RDONLY | os.O_NONBLOCK | os.O_CLOEXEC), "rb") as file:
-            return file.read() if most is None else file.read(most)
-    except OSError as error:
-        raise Failed(f"{path}: {error.strerror}", DEVICE) from error
+    with naming(path), open(os.open(path, os.O_RDONLY | os.O_NONBLOCK | os.O_CLOEXEC), "rb") as file:
+        return file.read() if most is None else file.read(most)
 
 
 def is_same(one: os.stat_result, other: os.stat_result) -> bool:
@@ -207,12 +196,18 @@ def write(out: Out, data: str | bytes | Iterable[str], inputs: Iterable[Path] = 
     """Writes a file, whole or not at all: a text, bytes, or the parts of a text, which needn't be in memory at once."""
     before = check(out, inputs)
     parts = (data,) if isinstance(data, str | bytes) else data
-    try:
+    with writing(out.path):
         put(Path(os.path.realpath(out.path)), (part if isinstance(part, bytes) else part.encode() for part in parts), before)
-    except FileExistsError as error:
-        raise refused(out.path, "was created by somebody else meanwhile; it is not overwritten") from error
-    except OSError as error:
-        raise Failed(f"{out.path}: {error.strerror}", DEVICE) from error
+
+
+@contextlib.contextmanager
+def writing(path: Path) -> Iterator[None]:
+    """Raises an error of the system inside the block as `Failed`: the file can't be written, or somebody else made it meanwhile."""
+    with naming(path):
+        try:
+            yield
+        except FileExistsError as error:
+            raise refused(path, "was created by somebody else meanwhile; it is not overwritten") from error
 
 
 @contextlib.contextmanager
@@ -248,13 +243,8 @@ def new_file(path: Path) -> Iterator[BinaryIO]:
     """A new file that is written part by part, and appears whole or not at all."""
     if status_of(path) is not None or path.is_symlink():
         raise refused(path, "already exists; name a new file")
-    try:
-        with filled(Path(os.path.realpath(path))) as file:
-            yield file
-    except FileExistsError as error:
-        raise refused(path, "was created by somebody else meanwhile; it is not overwritten") from error
-    except OSError as error:
-        raise Failed(f"{path}: {error.strerror}", DEVICE) from error
+    with writing(path), filled(Path(os.path.realpath(path))) as file:
+        yield file
 
 
 def name_new(temporary: Path, path: Path) -> None:
@@ -307,23 +297,20 @@ def new_folder(path: Path, names: Collection[str]) -> Iterator[Path]:
         raise refused(path, "already exists; name a new folder")
     real = Path(os.path.realpath(path))
     remove_left(real.parent, names)
-    try:
-        with unfinished(real) as temporary:
-            yield temporary
-            for folder, _, some in os.walk(temporary, topdown=False):
-                for name in some:
-                    os.chmod(Path(folder, name), 0o444)
-                    sync_file(Path(folder, name))
-                sync_folder(Path(folder))
-            try:
-                rename_new(temporary, real)
-            except OSError as error:
-                if error.errno in (errno.EEXIST, errno.ENOTEMPTY, errno.ENOTDIR):
-                    raise refused(path, "was created by somebody else meanwhile; it is not replaced") from error
-                raise
-            sync_folder(real.parent)
-    except OSError as error:
-        raise Failed(f"{path}: {error.strerror}", DEVICE) from error
+    with naming(path), unfinished(real) as temporary:
+        yield temporary
+        for folder, _, some in os.walk(temporary, topdown=False):
+            for name in some:
+                os.chmod(Path(folder, name), 0o444)
+                sync_file(Path(folder, name))
+            sync_folder(Path(folder))
+        try:
+            rename_new(temporary, real)
+        except OSError as error:
+            if error.errno in (errno.EEXIST, errno.ENOTEMPTY, errno.ENOTDIR):
+                raise refused(path, "was created by somebody else meanwhile; it is not replaced") from error
+            raise
+        sync_folder(real.parent)
 
 
 @contextlib.contextmanager
@@ -407,10 +394,8 @@ class Appended:
         with contextlib.suppress(FileExistsError):
             if status_of(path) is None:
                 write_new(path, first)
-        try:
+        with naming(path):
             self.descriptor = os.open(path, os.O_RDWR | os.O_NONBLOCK | os.O_CLOEXEC)
-        except OSError as error:
-            raise Failed(f"{path}: {error.strerror}", DEVICE) from error
         try:
             lock(self.descriptor)
             self.settle()
@@ -428,7 +413,7 @@ class Appended:
     def __enter__(self) -> Self:
         return self
 
-    def __exit__(self, kind: type[BaseException] | None, error: BaseException | None, trace: TracebackType | None) -> None:
+    def __exit__(self, *_: object) -> None:
         self.close()
 
     def close(self) -> None:

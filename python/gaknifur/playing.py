@@ -17,7 +17,7 @@ from pathlib import Path
 from typing import IO, Any, Literal
 
 from . import program
-from .program import DEVICE, REFUSED, WHOLE, Failed
+from .program import REFUSED, WHOLE, Failed
 
 Result = dict[str, Any]
 Which = Literal["all", "last", "changes", "none"]
@@ -90,10 +90,8 @@ def played(lines: Iterable[bytes], slots: int, outputs: Which, images: Path | No
     words = [program.find(), "play", f"--slots={slots}", f"--outputs={outputs}", *([] if images is None else [f"--images={images}"])]
     count = 0
     with program.message_file() as errors:
-        try:
+        with program.naming(words[0]):
             process = subprocess.Popen(words, stdin=subprocess.PIPE, stdout=subprocess.PIPE, stderr=errors)
-        except OSError as error:
-            raise Failed(f"{words[0]}: {error.strerror}", DEVICE) from error
         assert process.stdin is not None and process.stdout is not None
         feeder = Feeder(lines, process.stdin)
         feeder.start()
@@ -160,7 +158,7 @@ def bytes_of(path: str) -> bytes:
     """The bytes of a file, in a fraction of the time of a `Path`."""
     file = os.open(path, os.O_RDONLY | os.O_CLOEXEC)
     try:
-        return program.all_of(file)
+        return os.pread(file, os.fstat(file).st_size, 0)
     finally:
         os.close(file)
 

@@ -9,7 +9,6 @@ import contextlib
 import functools
 import os
 import shutil
-import signal
 import subprocess
 import tempfile
 from collections.abc import Generator, Iterator, Sequence
@@ -38,6 +37,15 @@ class Failed(Exception):
     def __reduce__(self) -> tuple[type["Failed"], tuple[str, int]]:
         """What a process sends to another one."""
         return Failed, (str(self), self.status)
+
+
+@contextlib.contextmanager
+def naming(what: object) -> Iterator[None]:
+    """Raises an error of the system inside the block as `Failed`, whose message names what it is about."""
+    try:
+        yield
+    except OSError as error:
+        raise Failed(f"{what}: {error.strerror}", DEVICE) from error
 
 
 HERE = Path(__file__).resolve()
@@ -147,85 +155,15 @@ def reader() -> str:
     return f"gaknifur {version()}; {PROOF[reader_is_proved()]}"
 
 
-@dataclass(frozen=True)
-class Ran:
-    """A completed run of a program: its status, its output, and what it printed on standard error."""
-
-    status: int
-    output: bytes
-    errors: bytes
-
-
-def ran(words: Sequence[str]) -> Ran:
-    """Runs a program to its end. Its output goes to a file in memory, so that nothing has to read while it runs, and the process
-    is started without a copy of this one. That takes less than half the time of `subprocess`, which matters for a program
-    that runs for a millisecond."""
-    if not hasattr(os, "memfd_create"):  # (only Linux has it)
-        done = subprocess.run(words, stdin=subprocess.DEVNULL, capture_output=True)
-        return Ran(done.returncode, done.stdout, done.stderr)
-    output, errors = memory_file("output"), memory_file("errors")
-    try:
-        process = os.posix_spawnp(words[0], list(words), environment(), setsigdef=(signal.SIGPIPE, signal.SIGXFSZ), file_actions=(
-            (os.POSIX_SPAWN_OPEN, 0, os.devnull, os.O_RDONLY, 0), (os.POSIX_SPAWN_DUP2, output, 1), (os.POSIX_SPAWN_DUP2, errors, 2)))
-        return Ran(ended(process), all_of(output), all_of(errors))
-    finally:
-        os.close(output)
-        os.close(errors)
-
-
-kept_environment: dict[bytes, bytes] | None = None
-
-
-def environment() -> dict[bytes, bytes]:
-    """The environment of programs."""
-    return dict(os.environb) if kept_environment is None else kept_environment
-
-
-@contextlib.contextmanager
-def same_environment() -> Iterator[None]:
-    """Reads the environment once instead of for each program, which would take as long as starting one."""
-    global kept_environment
-    before, kept_environment = kept_environment, environment()
-    try:
-        yield
-    finally:
-        kept_environment = before
-
-
-def memory_file(name: str) -> int:
-    """A file in memory, whose number isn't that of a standard stream."""
-    file = os.memfd_create(name)
-    if file > 2:
-        return file
-    import fcntl  # (imported here, since Windows has no such module)
-    other = fcntl.fcntl(file, fcntl.F_DUPFD_CLOEXEC, 3)
-    os.close(file)
-    return other
+def ran(words: Sequence[str]) -> subprocess.CompletedProcess[bytes]:
+    """Runs a program to its end."""
+    with naming(words[0]):
+        return subprocess.run(words, stdin=subprocess.DEVNULL, capture_output=True)
 
 
 def message_file() -> IO[bytes]:
     """A file for what a program says on standard error: in memory, since a full disk may be what it says. (Only Linux has such files.)"""
-    return os.fdopen(memory_file("errors"), "w+b") if hasattr(os, "memfd_create") else tempfile.TemporaryFile()
-
-
-def ended(process: int) -> int:
-    """Waits for the end of a process, and returns its status. Kills the process if the wait is interrupted."""
-    try:
-        return os.waitstatus_to_exitcode(os.waitpid(process, 0)[1])
-    except ChildProcessError:
-        return 0  # the parent of this process ignores SIGCHLD, so the status is lost; subprocess returns the same
-    except BaseException:
-        os.kill(process, signal.SIGKILL)
-        os.waitpid(process, 0)
-        raise
-
-
-def all_of(file: int) -> bytes:
-    """All bytes of a file."""
-    size, data = os.fstat(file).st_size, b""
-    while len(data) < size:
-        data += os.pread(file, size - len(data), len(data))
-    return data
+    return os.fdopen(os.memfd_create("errors"), "w+b") if hasattr(os, "memfd_create") else tempfile.TemporaryFile()
 
 
 class Run:
@@ -240,25 +178,19 @@ class Run:
     def lines(self) -> Generator[str, None, None]:
         """The lines of standard output."""
         with tempfile.TemporaryFile() as errors:
-            try:
-                with subprocess.Popen(self.words, stdin=subprocess.DEVNULL, stdout=subprocess.PIPE, stderr=errors,
-                                      text=True, encoding="utf-8", errors="replace") as process:
-                    assert process.stdout is not None
-                    yield from process.stdout
-                    self.status = process.wait()
-            except OSError as error:
-                raise Failed(f"{self.words[0]}: {error.strerror}", DEVICE) from error
+            with naming(self.words[0]), subprocess.Popen(self.words, stdin=subprocess.DEVNULL, stdout=subprocess.PIPE, stderr=errors,
+                                                          text=True, encoding="utf-8", errors="replace") as process:
+                assert process.stdout is not None
+                yield from process.stdout
+                self.status = process.wait()
             errors.seek(0)
             self.messages = os.fsdecode(errors.read()).split("\n")[:-1]
 
     def all_text(self) -> str:
         """All of standard output at once, for a run with little output."""
-        try:
-            done = ran(self.words)
-        except OSError as error:
-            raise Failed(f"{self.words[0]}: {error.strerror}", DEVICE) from error
-        self.status, self.messages = done.status, os.fsdecode(done.errors).split("\n")[:-1]
-        return done.output.decode(errors="replace")
+        done = ran(self.words)
+        self.status, self.messages = done.returncode, os.fsdecode(done.stderr).split("\n")[:-1]
+        return done.stdout.decode(errors="replace")
 
     def all_lines(self) -> list[str]:
         """Its lines."""
@@ -279,16 +211,12 @@ class Run:
 
 def etcs(*words: str) -> tuple[int, list[str]]:
     """Runs `etcs`; returns its status and the lines that it prints."""
-    path = find("etcs")
-    try:
-        done = ran([path, *words])
-    except OSError as error:
-        raise Failed(f"{path}: {error.strerror}", DEVICE) from error
-    messages = done.errors.decode(errors="replace").splitlines()
-    printed = done.output.decode(errors="replace").splitlines()
-    if not printed and (done.status < 0 or done.status > DEVICE):
-        raise Failed(f"etcs {words[0]} ended with status {done.status}{': ' + messages[-1] if messages else ''}", REFUSED)
-    return done.status, printed
+    done = ran([find("etcs"), *words])
+    messages = done.stderr.decode(errors="replace").splitlines()
+    printed = done.stdout.decode(errors="replace").splitlines()
+    if not printed and (done.returncode < 0 or done.returncode > DEVICE):
+        raise Failed(f"etcs {words[0]} ended with status {done.returncode}{': ' + messages[-1] if messages else ''}", REFUSED)
+    return done.returncode, printed
 
 
 def format_image(image: Path, slots: int) -> None:
@@ -333,16 +261,12 @@ def temporary_folder(slots: int) -> tempfile.TemporaryDirectory[str]:
 def adapted(digits: str) -> str:
     """The telegram that a unit gets in place of one of an installed track: the output of `etcs_lab telegram --installed`. Raises
     Failed if it refuses."""
-    path = find()
-    try:
-        done = subprocess.run([path, "telegram", f"--installed={digits}"], stdin=subprocess.DEVNULL, capture_output=True, text=True,
-                              encoding="utf-8", errors="replace")
-    except OSError as error:
-        raise Failed(f"{path}: {error.strerror}", DEVICE) from error
+    done = ran([find(), "telegram", f"--installed={digits}"])
+    printed = done.stdout.decode(errors="replace")
     if done.returncode:
-        last = Completed(done.returncode, done.stdout, done.stderr).last()
+        last = Completed(done.returncode, printed, done.stderr.decode(errors="replace")).last()
         raise Failed(last.removeprefix("etcs_lab: ").removeprefix("HEX: "), REFUSED)
-    return done.stdout.strip()
+    return printed.strip()
 
 
 MOST_DECODED = 4096

@@ -16,7 +16,7 @@ from typing import Any
 import yaml
 
 from .files import opened
-from .program import DEVICE, REFUSED, Failed
+from .program import DEVICE, REFUSED, Failed, naming
 
 NUMBER = re.compile(r"-?[0-9][0-9_]*(\.[0-9]+)?")
 MOST_BYTES, MOST_DEPTH, MOST_VALUES, MOST_DIGITS, MOST_SHOWN, MOST_MESSAGE = 1 << 20, 64, 1 << 20, 28, 80, 4_000
@@ -277,10 +277,8 @@ def check(path: Path, node: yaml.Node, sizes: dict[int, int]) -> int:
 def text_of(path: Path) -> str:
     """The text of a file."""
     try:
-        with opened(path) as file:
+        with naming(path), opened(path) as file:
             data = file.read(MOST_BYTES + 1)
-    except OSError as error:
-        raise Failed(f"{path}: {error.strerror}", DEVICE) from error
     except ValueError as error:
         raise Failed(f"{on_a_line(str(path))}: is not a file name", DEVICE) from error
     if len(data) > MOST_BYTES:

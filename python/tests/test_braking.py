@@ -1,7 +1,7 @@
 """Whether a train braked: figures by hand, from docs/reference/lab.md (Did the train brake). 36 km/h are 10 m/s, and 1 m/s² stops that in 50 m."""
 import unittest
 
-from gaknifur.journal.braking import flat, measures, promised_cm, promised_curve, row, rows, text
+from gaknifur.journal.braking import flat, measures, parts, promised_cm, promised_curve, row, rows
 from gaknifur.journal.reading import Json
 
 from .samples import AUTHORITY, record
@@ -252,11 +252,11 @@ class AsText(unittest.TestCase):
         drive = braked()
         drive.read(*SLOWING)
         drive.clock()
-        self.assertEqual(text(drive.last()), "life 1 events 5..26: emergency brake at 36 km/h: the train stops; deceleration begins after 0 to 2 s, 0 to 9.5 m: 0.9 "
+        self.assertEqual("; ".join(parts(drive.last())), "life 1 events 5..26: emergency brake at 36 km/h: the train stops; deceleration begins after 0 to 2 s, 0 to 9.5 m: 0.9 "
                          "to 1.43 m/s²; standstill after 8 to 11 s, 50 m; the train data promise 1 m/s² after 0 s, 50 m: reaction not sure, rate not sure, way kept")
 
     def test_standing(self) -> None:
-        self.assertEqual(text(row(next(measures(Drive().records)))), "life 1 events 0..0: emergency brake at 0 km/h: the train stands")
+        self.assertEqual(parts(row(next(measures(Drive().records)))), ["life 1 events 0..0: emergency brake at 0 km/h: the train stands"])
 
 
 if __name__ == "__main__":

@@ -2,23 +2,18 @@
 import hashlib
 import json
 import os
-import signal
-import subprocess
-import sys
 import tempfile
 import unittest
 from pathlib import Path
 from unittest.mock import patch
 
-from gaknifur import program
 from gaknifur.journal import reading
 from gaknifur.journal.reading import Journal, Records, read
-from gaknifur.program import Failed, Ran, etcs, find, proof
+from gaknifur.program import Failed, etcs, find, proof
 from gaknifur.simulation import campaign_table
 
 from .samples import InFolder, journal, line, record
 
-TOP = Path(__file__).resolve().parents[2]
 STAND_IN = """#!/bin/sh
 cat "$0.$1"
 cat "$0.$1.said" 1>&2 2>/dev/null
@@ -125,78 +120,12 @@ class Reading(InFolder):
             self.assertRaisesRegex(Failed, message, self.read)
 
 
-class Whole(InFolder):
-    """A program that is run to its end, and reported all at once."""
+class Missing(unittest.TestCase):
+    """A program that isn't there."""
 
-    def setUp(self) -> None:
-        super().setUp()
-        self.path = self.room / "program"
-
-    def ran(self, text: str) -> Ran:
-        """What a shell's text comes to."""
-        self.path.write_text(f"#!/bin/sh\n{text}\n")
-        self.path.chmod(0o755)
-        return program.ran([str(self.path), "first", "second"])
-
-    def test_all_that_it_prints(self) -> None:
-        done = self.ran('printf "%300000s" "$1"; printf "%200000s" "$2" 1>&2; exit 3')
-        self.assertEqual((done.status, len(done.output), len(done.errors)), (3, 300_000, 200_000))
-        self.assertEqual((done.output[-6:], done.errors[-7:]), (b" first", b" second"))
-        self.assertEqual(self.ran("echo $GAKNIFUR_A"), Ran(0, b"\n", b""))
-        with patch.dict(os.environ, {"GAKNIFUR_A": "a"}):
-            self.assertEqual(self.ran("echo $GAKNIFUR_A"), Ran(0, b"a\n", b""))
-
-    def test_that_reads_nothing(self) -> None:
-        """Whatever there is for this process to read."""
-        before = os.dup(0)
-        with tempfile.TemporaryFile() as given:
-            given.write(b"given")
-            given.seek(0)
-            os.dup2(given.fileno(), 0)
-            try:
-                self.assertEqual(self.ran("cat"), Ran(0, b"", b""))
-            finally:
-                os.dup2(before, 0)
-                os.close(before)
-
-    def test_signals(self) -> None:
-        self.assertEqual(self.ran("kill -KILL $$").status, -9)
-        self.assertEqual(self.ran("kill -PIPE $$; echo goes on"), Ran(-13, b"", b""))
-
-    def test_one_that_is_missing(self) -> None:
+    def test_is_named(self) -> None:
         with patch.dict(os.environ, GAKNIFUR_ETCS="/none/etcs"):
             self.assertRaisesRegex(Failed, "^/none/etcs: No such file or directory$", etcs, "decode", "90")
-
-    def test_none_is_left_after_an_interrupt(self) -> None:
-        waited: list[int] = []
-
-        def interrupted(process: int, options: int) -> tuple[int, int]:
-            waited.append(process)
-            if len(waited) == 1:
-                raise KeyboardInterrupt
-            return waits(process, options)
-
-        waits = os.waitpid
-        with patch("os.waitpid", interrupted), self.assertRaises(KeyboardInterrupt):
-            self.ran("exec sleep 100")
-        self.assertEqual(waited, [waited[0]] * 2)
-        self.assertRaises(ProcessLookupError, os.kill, waited[0], 0)
-
-    def test_streams_that_are_closed(self) -> None:
-        self.ran("echo out; echo said 1>&2")
-        asked = ("import sys; sys.path.insert(0, sys.argv[1]); from gaknifur.program import ran; done = ran([sys.argv[2]])\n"
-                 "open(sys.argv[2] + '.done', 'w').write(repr((done.status, done.output, done.errors)))")
-        for closes in ("", "<&-", ">&-", "<&- >&-", "<&- >&- 2>&-"):
-            subprocess.run(["sh", "-c", f'exec "$0" -I -B -c "$1" "$2" "$3" {closes}', sys.executable, asked, str(TOP / "python"), str(self.path)],
-                           check=True)
-            self.assertEqual(Path(f"{self.path}.done").read_text(), r"(0, b'out\n', b'said\n')", closes)
-
-    def test_whose_status_the_system_throws_away(self) -> None:
-        before = signal.signal(signal.SIGCHLD, signal.SIG_IGN)
-        try:
-            self.assertEqual(self.ran("echo out; exit 3"), Ran(0, b"out\n", b""))
-        finally:
-            signal.signal(signal.SIGCHLD, before)
 
 
 class Packed(unittest.TestCase):
@@ -216,21 +145,23 @@ class Packed(unittest.TestCase):
                 self.assertRaises(IndexError, lambda: found[count])
 
 
-class Unproved(unittest.TestCase):
-    """A script that compiles the sources, since no program is proved."""
+class Scripts(unittest.TestCase):
+    """A script, which compiles the sources if no program is proved."""
 
     def test_is_asked_once_a_process(self) -> None:
-        with tempfile.TemporaryDirectory() as folder:
-            top = Path(folder)
-            for path, text in ((top / "etcs", f"#!/bin/sh\necho \"$@\" >>{top}/asked\n[ \"$1\" = --tried ] && echo {top}/compiled\n"),
-                               (top / "compiled", "#!/bin/sh\necho ran \"$@\"\n")):
-                path.write_text(text)
-                path.chmod(0o755)
-            with patch.dict(os.environ), patch("gaknifur.program.script", lambda name: top / name):
+        """Whether or not there is a proved program."""
+        for is_proved, place, asked in ((False, "compiled", "--is-proved\n--tried\n"), (True, "crates/etcs/out/etcs", "--is-proved\n")):
+            with tempfile.TemporaryDirectory() as folder, patch.dict(os.environ), patch("gaknifur.program.script", lambda name: Path(folder, name)):
+                compiled = Path(folder, place)
+                compiled.parent.mkdir(parents=True, exist_ok=True)
+                for path, text in ((Path(folder, "etcs"), f'#!/bin/sh\necho "$@" >>{folder}/asked\n[ "$1" = --tried ] && echo {compiled} || exit {int(not is_proved)}\n'),
+                                   (compiled, "#!/bin/sh\necho ran \"$@\"\n")):
+                    path.write_text(text)
+                    path.chmod(0o755)
                 os.environ.pop("GAKNIFUR_ETCS", None)
                 self.assertEqual([etcs("decode", str(number)) for number in range(3)], [(0, [f"ran decode {number}"]) for number in range(3)])
-                self.assertEqual((find("etcs"), proof.__wrapped__("etcs")), (f"{top}/compiled", False))
-            self.assertEqual((top / "asked").read_text(), "--is-proved\n--tried\n")
+                self.assertEqual((find("etcs"), proof.__wrapped__("etcs")), (str(compiled), is_proved))
+                self.assertEqual(Path(folder, "asked").read_text(), asked)
 
     def test_a_campaign_takes_it(self) -> None:
         """It says so in its table, and compares programs by their digests alone."""
@@ -256,24 +187,6 @@ class Unproved(unittest.TestCase):
             Path(folder, "etcs").write_text("#!/bin/sh\nexit 2\n")
             Path(folder, "etcs").chmod(0o755)
             self.assertRaisesRegex(Failed, "etcs can't be run", etcs, "decode", "90")
-
-
-class Proved(unittest.TestCase):
-    """A script whose program is proved."""
-
-    def test_is_asked_once_a_process(self) -> None:
-        with tempfile.TemporaryDirectory() as folder:
-            top = Path(folder)
-            (top / "crates/etcs/out").mkdir(parents=True)
-            for path, text in ((top / "etcs", f"#!/bin/sh\necho \"$@\" >>{top}/asked\n"),
-                               (top / "crates/etcs/out/etcs", "#!/bin/sh\necho ran \"$@\"\n")):
-                path.write_text(text)
-                path.chmod(0o755)
-            with patch.dict(os.environ), patch("gaknifur.program.script", lambda name: top / name):
-                os.environ.pop("GAKNIFUR_ETCS", None)
-                self.assertEqual([etcs("decode", str(number)) for number in range(3)], [(0, [f"ran decode {number}"]) for number in range(3)])
-                self.assertEqual((find("etcs"), proof.__wrapped__("etcs")), (str(top / "crates/etcs/out/etcs"), True))
-            self.assertEqual((top / "asked").read_text(), "--is-proved\n")
 
 
 if __name__ == "__main__":

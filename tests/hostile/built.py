@@ -12,8 +12,6 @@ PROGRAM = os.environ.get("ETCS") or str(TOP / "crates/etcs/out/etcs")
 
 sys.path[:0] = [str(TOP / "tests/plain"), str(TOP / "tests")]
 
-from processes import run_to_end  # noqa: E402
-
 SECTOR = 512
 SLOT = 6 * SECTOR
 
@@ -31,10 +29,10 @@ def run_program(words, preload=None, **environment):
     env = None
     if preload or environment:
         env = dict(os.environ, **environment) | ({"LD_PRELOAD": preload} if preload else {})
-    status, printed, said = run_to_end([PROGRAM, *map(str, words)], env)
-    if said:
-        raise SystemExit(f"{words}: standard error has {said[:200]!r}")
-    return status, printed.decode()
+    done = subprocess.run([PROGRAM, *map(str, words)], stdin=subprocess.DEVNULL, capture_output=True, env=env, timeout=60)
+    if done.stderr:
+        raise SystemExit(f"{words}: standard error has {done.stderr[:200]!r}")
+    return done.returncode, done.stdout.decode()
 
 
 LIBRARIES = tempfile.TemporaryDirectory()

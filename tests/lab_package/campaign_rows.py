@@ -17,7 +17,7 @@ from pathlib import Path
 
 TOP = Path(__file__).resolve().parents[2]
 PYTHON = sys.executable
-WAIT = 60
+WAIT = 300  # seconds, on a busy machine
 LIVES_BOTH_WAYS = 60
 MOST_REFUSING = 20  # seconds, nearly all for starting Python on a busy machine
 failed = 0

@@ -127,7 +127,6 @@ ROWS = """\
 4 lab capture altered t.pcap
 4 lab redact altered copy3
 4 lab case altered --event 5
-4 lab braking image
 4 lab why image
 4 lab why image 99
 4 lab diff altered altered

@@ -120,7 +120,7 @@ def honest(rows, room):
     rows.unless(f"read by {program.reader()}" in notes, f"the workbook doesn't say by what it was read: {notes}")
 
 
-COMMANDS = ("check image", "table image out.csv", "timeline image out.jsonl", "database image out.db", "braking image", "why image", "capture image out.pcap",
+COMMANDS = ("check image", "table image out.csv", "timeline image out.jsonl", "database image out.db", "why image", "capture image out.pcap",
             "diff image image", "join joined image", "report image out.html", "seal image bag", "verify bag")
 """The commands that take altered images in turn; the last two take the same one."""
 COUNT, LEAST = 44, 10

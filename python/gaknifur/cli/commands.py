@@ -237,11 +237,9 @@ JOURNAL = [
                 ("maximum_percent", "N", "how much a speed may be above the train's maximum, as a percentage"),
                 ("place_cm", "CM", "tolerated error of a balise group's place in cm"),
                 ("place_percent", "N", "plus this percentage of the distance")))),
-    Command("braking", "journal", "cli.journal_commands:measure_braking", "Measure whether the train braked after each brake command",
-            "Compares it with the train data that were entered; docs/reference/lab.md defines each figure. Status 4: it took longer or "
-            "farther than they promise, or `lab check` finds something.", "braking image", IMAGE, JSON_LINES),
     Command("why", "journal", "cli.journal_commands:explain", "Explain each brake command, and say whether the train braked",
-            "The causes and trips are those of `etcs_lab why`, the figures those of `lab braking`. Status 4: as in `lab braking`.", "why image 120",
+            "The causes and trips are those of `etcs_lab why`; docs/reference/lab.md defines the figures. Status 4: it took longer or farther than "
+            "the train data promise, or `lab check` finds something.", "why image 120",
             IMAGE, Argument("event", "[EVENT]", "the number of one event (default: each brake command)", NATURAL, required=False), JSON_LINES),
     Command("dissector", "journal", "cli.journal_commands:write_dissector", "Write a Wireshark dissector for telegrams, in Lua",
             "Captures have the link type USER0 (147).", "dissector telegrams.lua",

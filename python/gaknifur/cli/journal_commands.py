@@ -1,4 +1,4 @@
-"""The commands about a journal: `table`, `timeline`, `database`, `report`, `check`, `braking`, `why`, `dissector` and `capture`.
+"""The commands about a journal: `table`, `timeline`, `database`, `report`, `check`, `why`, `dissector` and `capture`.
 
 What takes long to load, such as pandas and matplotlib, is loaded by the command that needs it.
 """
@@ -13,7 +13,7 @@ from types import SimpleNamespace
 from .. import files, program
 from ..errors import say
 from ..journal import braking, plausibility, verdict, why
-from ..journal.reading import Journal, Json, Progress, check, objects, parsed_all, read
+from ..journal.reading import Journal, Progress, check, objects, parsed_all, read
 from ..journal.verdict import Verdict
 from ..program import DEVICE, NOT_WHOLE, REFUSED, WHOLE, WRONG_WORDS, Failed, Run
 
@@ -163,18 +163,6 @@ def check_image(given: SimpleNamespace, progress: Progress) -> int:
     if run.status not in (WHOLE, NOT_WHOLE):
         return run.status
     return max(run.status, judge(given, progress))
-
-
-def measure_braking(given: SimpleNamespace, progress: Progress) -> int:
-    """Runs `lab braking`."""
-    journal = read(given.image, replay=True, progress=progress)
-    found = list(braking.rows(journal.records))
-    if not found:
-        say(f"{given.image}: no record commands a brake")
-        return note(journal) or REFUSED
-    sys.stdout.writelines((json.dumps(one) if given.json else braking.text(one)) + "\n" for one in found)
-    sys.stdout.flush()
-    return max(note(journal), NOT_WHOLE if any(map(braking.is_broken, found)) else WHOLE)
 
 
 def explain(given: SimpleNamespace, progress: Progress) -> int:

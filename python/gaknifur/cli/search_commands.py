@@ -10,7 +10,7 @@ from typing import Any
 from .. import files
 from ..escaping import shown
 from ..journal.reading import Json, Progress
-from ..program import DEVICE, FOUND, REFUSED, WRONG_WORDS, Failed
+from ..program import DEVICE, FOUND, REFUSED, WRONG_WORDS, Failed, naming
 from ..testing import case_runner, properties
 from ..testing.properties import Property, PropertyFile, Violated
 from ..units.other_unit import words_of
@@ -65,10 +65,8 @@ def record_of(path: Path, number: int, line: str) -> Json | None:
 def records_of(path: Path) -> list[Json]:
     """The records of a file."""
     try:
-        with io.TextIOWrapper(files.opened(path), encoding="utf-8") as file:
+        with naming(path), io.TextIOWrapper(files.opened(path), encoding="utf-8") as file:
             found = [one for number, line in enumerate(file, 1) if (one := record_of(path, number, line)) is not None]
-    except OSError as error:
-        raise Failed(f"{path}: {error.strerror}", DEVICE) from error
     except UnicodeDecodeError:
         raise Failed(f"{path}: not a UTF-8 text", REFUSED) from None
     if not found:

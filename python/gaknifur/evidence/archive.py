@@ -14,7 +14,6 @@ import tempfile
 from collections.abc import Iterator
 from dataclasses import dataclass, field
 from pathlib import Path
-from types import TracebackType
 from typing import Self
 
 from .. import files
@@ -22,7 +21,7 @@ from ..escaping import shown
 from ..journal import layout, verdict
 from ..journal.reading import Json, examine, read
 from ..journal.verdict import Verdict
-from ..program import DEVICE, REFUSED, Failed
+from ..program import REFUSED, Failed, naming
 from . import identity, times
 
 
@@ -35,10 +34,8 @@ class Ring:
 
     def __init__(self, path: str | Path) -> None:
         self.path = Path(path)
-        try:
+        with naming(path):
             self.descriptor = os.open(path, os.O_RDONLY | os.O_NONBLOCK | os.O_CLOEXEC)
-        except OSError as error:
-            raise Failed(f"{path}: {error.strerror}", DEVICE) from error
         found, mode = None, os.fstat(self.descriptor).st_mode
         if stat.S_ISREG(mode) or stat.S_ISBLK(mode):
             found = layout.slots_of(os.pread(self.descriptor, layout.SECTOR, 0))
@@ -50,7 +47,7 @@ class Ring:
     def __enter__(self) -> Self:
         return self
 
-    def __exit__(self, kind: type[BaseException] | None, error: BaseException | None, trace: TracebackType | None) -> None:
+    def __exit__(self, *_: object) -> None:
         self.close()
 
     def close(self) -> None:

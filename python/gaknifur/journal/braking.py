@@ -287,11 +287,6 @@ def parts(one: Json) -> list[str]:
     return found + ([promise_text(one)] if one["promised_cm"] is not None else [])
 
 
-def text(one: Json) -> str:
-    """A row as text, on one line."""
-    return "; ".join(parts(one))
-
-
 def promise_text(one: Json) -> str:
     """What the train data promise, and what the figures say about it."""
     said = ", ".join(f"{name} {one[name].replace('_', ' ')}" for name in PROMISES if one[name])

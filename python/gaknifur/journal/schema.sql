@@ -74,7 +74,7 @@ CREATE TABLE implausible (
     PRIMARY KEY (image, finding)
 ) STRICT, WITHOUT ROWID;
 
--- Whether the train braked after each brake command, as `lab braking` prints it. `most` is NULL where it is unbounded.
+-- Whether the train braked after each brake command, as `lab why --json` prints it. `most` is NULL where it is unbounded.
 CREATE TABLE braking (
     image INTEGER NOT NULL REFERENCES image ON DELETE CASCADE,
     life INTEGER NOT NULL,

@@ -8,7 +8,7 @@ from dataclasses import dataclass, field
 
 from ..escaping import shown
 from ..journal import _words, causes
-from ..journal.groups import links_of, name_of
+from ..journal.groups import links_of
 from ..journal.reading import Json, Progress
 from ..testing import cases, course, lint, track_checks
 from ..testing.course import Event, Played

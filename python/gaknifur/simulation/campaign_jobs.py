@@ -209,7 +209,7 @@ def play_together(jobs: Sequence[tuple[Job, bytes]], folder: Path) -> Iterator[R
 def play_all(jobs: list[Job]) -> list[Row]:
     """Runs jobs: scenarios together, and each other job by itself, in one folder."""
     try:
-        with program.temporary_folder(AHEAD * max(job.size for job in jobs)) as name, program.same_environment():
+        with program.temporary_folder(AHEAD * max(job.size for job in jobs)) as name:
             lines = [(job, line_of(job)) for job in jobs]
             together = [(job, line) for job, line in lines if line]
             rows = list(play_together(together, Path(name))) if together else []

@@ -14,7 +14,7 @@ from types import ModuleType
 from typing import Any
 
 from ..program import DEVICE, Failed
-from .campaign import Batches, Job, Row, Take
+from .campaign import Batches, Job, Take
 
 LEAST_PLAYERS, AHEAD, PATIENCE = 4, 2, "30s"
 """The least number of workers for which jobs are handed out; the number of batches that each has, with the one that it runs; and the time limit for

@@ -14,7 +14,7 @@ from pathlib import Path
 from .. import files, processes
 from ..escaping import shown
 from ..journal.reading import Progress, silent
-from ..program import DEVICE, PROCESSORS, REFUSED, Failed
+from ..program import PROCESSORS, REFUSED, Failed, naming
 from ..yaml_files import Value, document, guess, shortened
 from . import case_runner, cases_together, coverage, coverage_sets
 from .cases import Case
@@ -94,12 +94,10 @@ def text_of(found: ByCase) -> str:
 def read(path: Path) -> ByCase:
     """What cases reach, from a file that `lab test --reached` made."""
     try:
-        with files.opened(path) as file:
+        with naming(path), files.opened(path) as file:
             reached = json.loads(file.read().decode("utf-8"))["reached_by"]
         return {str(case): {str(name): [str(one) for one in members] for name, members in sets.items()}
                 for case, sets in reached.items()}
-    except OSError as error:
-        raise Failed(f"{path}: {error.strerror}", DEVICE) from error
     except (ValueError, KeyError, TypeError, AttributeError) as error:
         raise Failed(f"{path}: is not a file that `lab test --reached` made", REFUSED) from error
 

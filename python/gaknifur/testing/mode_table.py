@@ -3,7 +3,7 @@ import functools
 import subprocess
 import sys
 
-from ..program import DEVICE, REFUSED, TOP, Failed
+from ..program import DEVICE, REFUSED, TOP, Failed, naming
 
 DOCS = TOP / "docs"
 Table = dict[int, tuple[list[str], str]]
@@ -12,10 +12,8 @@ Table = dict[int, tuple[list[str], str]]
 
 def page(name: str) -> str:
     """A page of the documentation."""
-    try:
+    with naming(DOCS / name):
         return (DOCS / name).read_text(encoding="utf-8")
-    except OSError as error:
-        raise Failed(f"{DOCS / name}: {error.strerror}", DEVICE) from error
 
 
 @functools.cache

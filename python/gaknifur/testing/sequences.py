@@ -16,7 +16,7 @@ from pathlib import Path
 from typing import Any, BinaryIO
 
 from .. import files
-from ..program import DEVICE, REFUSED, Failed
+from ..program import DEVICE, REFUSED, Failed, naming
 from ..yaml_files import Value, document, shortened
 from .yaml_text import flow, quoted
 
@@ -103,12 +103,10 @@ def mapping(path: Path) -> Mapping:
 def cells(path: Path) -> Iterator[list[str]]:
     """The cells of a table, row by row."""
     try:
-        with files.opened(path) as file:
+        with naming(path), files.opened(path) as file:
             if os.fstat(file.fileno()).st_size > MOST_BYTES:
                 raise Failed(f"{path}: has more than {MOST_BYTES:,} bytes", REFUSED)
             yield from of_workbook(path, file) if path.suffix == ".xlsx" else of_text(file)
-    except OSError as error:
-        raise Failed(f"{path}: {error.strerror}", DEVICE) from error
     except (UnicodeDecodeError, csv.Error) as error:
         raise Failed(f"{path}: not a UTF-8 table: {error}", REFUSED) from error
 

@@ -11,7 +11,6 @@ import shlex
 import signal
 import subprocess
 import time
-from types import TracebackType
 from typing import Self
 
 from ..journal.reading import Json
@@ -140,8 +139,7 @@ class OtherUnit:
     def __enter__(self) -> Self:
         return self
 
-    def __exit__(self, kind: type[BaseException] | None, error: BaseException | None,
-                 trace: TracebackType | None) -> None:
+    def __exit__(self, *_: object) -> None:
         self.kill()
 
     def kill(self) -> None:

@@ -20,7 +20,11 @@ use mode_control::SupervisionOver;
 use mode_table::Mode;
 use speed_profile::{Ahead, Bounds};
 use track_picture::ProfileStores;
+use track_store::Profile;
 use units::{Cm, Mph, Stretch};
+
+// The most restrictions, static speeds and gradients, each, that a search goes along.
+const MOST_PIECES: usize = 64;
 
 /// A limit in Full Supervision or On Sight that holds wherever the train is within a window, while its bounds, its brakes
 /// and the national speeds are these and the track isn't reported anew (this project's profile).
@@ -47,7 +51,7 @@ impl SteadyLimit {
         ensures steady { (life : Life) → StandsForLife T.stores supervision.now life → IfSome result (λ steady. IsSteady steady life) }
         ensures limit { (life : Life) → StandsForLife T.stores supervision.now life → IfSome result (λ steady. steady.limit ≡ limit life) }
     {
-        let train = supervised_train(supervision)?;
+        let train = searched_train(supervision)?;
         find_for(supervision, &train)
     }
 
@@ -122,6 +126,37 @@ fn supervised_train<T: ProfileStores>(supervision: &SupervisionOver<T>) -> Optio
         Mode::FullSupervision | Mode::OnSight => valid_train(&supervision.driver().train_data()),
         _ => None,
     }
+}
+
+// The same where the track is short enough for a search, so that one that finds nothing adds little to the worst case.
+fn searched_train<T: ProfileStores>(supervision: &SupervisionOver<T>) -> Option<TrainData>
+    ensures { (life : Life) → StandsForLife T.stores supervision.now life → IfSome result (λ train. permitted_speed life train ≡ limit life) }
+{
+    let track = supervision.track();
+    let from = supervision.stretch().rear();
+    let is_short = track.restrictions().as_slice().len() <= MOST_PIECES
+        && has_few_pieces(track.speeds(), from)
+        && has_few_pieces(track.gradients(), from);
+    if is_short {
+        supervised_train(supervision)
+    } else {
+        None
+    }
+}
+
+// Whether a profile has no more pieces than a search goes along, from a place on.
+fn has_few_pieces<T: Drop, P: Profile<T>>(profile: &P, from: Cm) -> bool {
+    let mut place = from;
+    let mut near = 0;
+    for _ in 0..MOST_PIECES {
+        let here = profile.piece(place, near);
+        let Some(next) = here.next else {
+            return true;
+        };
+        place = next;
+        near = here.near;
+    }
+    false
 }
 
 // The data of a train that are valid.

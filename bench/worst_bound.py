@@ -1,6 +1,7 @@
 #!/usr/bin/env python3
 """Compare counts of calls with the bound that docs/project/performance.md argues: of each kept scenario (bench/worst.scenarios), each
-row of the doubling and of the stairs, each crowd of gradients, and each reading that takes the forgetting mark past such a crowd.
+row of the doubling and of the stairs, each crowd of gradients, and each reading that takes the forgetting mark past such a crowd. Where the limit
+is looked for, a steady limit may be looked for too, and every 17th time if none was found: so many readings more are made, and the most counts.
 
     bench/worst_bound.py [kept] [grown] [stairs] [anew] [crowds] [forgotten]    (default: all)
     bench/worst_bound.py --help                                                 print this
@@ -21,13 +22,15 @@ from mixed import in_plain_words  # noqa: E402
 from worst_search import ANEW, CROWDS, FORGOTTEN, GROWN, STAIRS, TWICE, anew, backwards, counted, crowded, forgetting, kept, stairs, text_of  # noqa: E402
 
 CALL = 10_000  # what a call takes that goes along nothing
-PIECE, SUMS = 44, 2  # of a sum for each gradient, and how many sums there are
-BACK, WALKS = 80, 2  # of a way back for each gradient before the brakes act, and how often each is passed, along with once for each target
-TARGET = 800  # for each restriction, mode area and static speed, and for both last targets: it lowers the speed
+PIECE, SUMS = 44, 3  # of a sum for each gradient, and how many sums there are: two for the limit, one for a steady limit
+BACK, WALKS = 80, 3  # of a way back for each gradient before the brakes act, and how often each is passed, along with once for each lowering
+TARGET, LOWERED = 800, 2  # for each restriction, mode area and static speed, and for both last targets: it lowers the speed, and how often
 TURNS, TURN = 20, 40  # with a reaction time: how often a lowering halves, and what each time takes
 MOVED = 9  # for each gradient and static speed that is left, where the forgetting mark passes one
 KNOWN = 5  # of a start for each gradient and static speed: whether it is known
 lives.output_of = lambda life: None  # (no output is asked for, and each takes a second)
+
+SAME = ["odometer 0 5000"] * 18  # (16 pass after a steady limit was not found; the slower, the shorter its window)
 
 # The calls for which a bound is argued. A telegram also makes room, and an opening and a preparation go along no gradient.
 WITHOUT = ("telegram", "power-up", "prepare")
@@ -46,9 +49,10 @@ def starts_of(profile):
 
 def passed(starts, front, way, targets):
     """How many gradients are passed at most on the way back to where the brakes act at the speeds that are looked for. These lie on the way that the
-    train runs before its brakes act at the speed that holds where it is. Each lowering goes on where the one before it ended, in the gradient there."""
+    train runs before its brakes act at the speed that holds where it is, and for a steady limit as far on from the end of its window. Each lowering
+    goes on where the one before it ended, in the gradient there."""
     there = sum(front < place <= front + way for place in starts) + 1
-    return WALKS * there + targets
+    return WALKS * there + LOWERED * targets
 
 
 def pieces_of(life):
@@ -73,9 +77,10 @@ def bound_of(lines, is_start):
     statics = 1 + sum(place > it.stretch.min_rear for place in speeds)
     targets = len(it.restrictions) + len(it.areas) + statics + 2
     way = -(-it.limit() * it.train.reaction_ms // 36_000)
-    back = passed(starts, front, way, targets) if way else 0
+    window = 1_000 + life.speed() // 9
+    back = passed(starts, front, window + way, targets) if way else 0
     left = pieces_of(life)
-    most = CALL + (MOVED * left if pieces > left else 0) + PIECE * SUMS * gradients + BACK * back + targets * (TARGET + (TURNS * TURN if way else 0))
+    most = CALL + (MOVED * left if pieces > left else 0) + PIECE * SUMS * gradients + BACK * back + LOWERED * targets * (TARGET + (TURNS * TURN if way else 0))
     return most + (KNOWN * (gradients + statics) if is_start else 0), (gradients, targets, back)
 
 
@@ -111,10 +116,11 @@ def scenarios_of(words):
 def main(words):
     usage.check(__doc__, set(words) <= {"kept", "grown", "stairs", "anew", "crowds", "forgotten"})
     cases = list(scenarios_of(words or ["kept", "grown", "stairs", "anew", "crowds", "forgotten"]))
-    took = counted([(4, [*lines[:-1], "count", lines[-1]]) for _, lines in cases])
+    more = [SAME if what.startswith("reading: ") and "forgotten" not in what else [] for what, _ in cases]
+    took = counted([(4, [*lines[:-1], "count", lines[-1], *same]) for (_, lines), same in zip(cases, more)])
     broken = 0
     for at, (what, lines) in enumerate(cases, 1):
-        number = took[at, len(lines) + 1][0]
+        number = max(took[at, len(lines) + 1 + later][0] for later in range(len(more[at - 1]) + 1))
         if what.startswith(WITHOUT):
             print(what, number, "-", sep="\t")
             continue

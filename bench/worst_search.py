@@ -40,7 +40,8 @@ from place import Sums  # noqa: E402
 
 OUT, SCENARIOS = TOP / "bench" / "out", TOP / "bench" / "worst.scenarios"
 
-CALLS = ("open", "telegram", "odometer", "clock", "action", "identity", "running_number", "train_data", "prepare")
+# (etcs_unit_open is code of the header, so a power-up is what it calls)
+CALLS = ("begin", "request", "provide", "telegram", "odometer", "clock", "action", "identity", "running_number", "train_data", "prepare")
 OTHER_CALLS = ("request", "provide", "done", "release", "commanded", "state", "why", "driver", "begin")
 
 ACTIONS = {1: "choose level 0", 2: "choose level 1", 3: "confirm identity", 4: "confirm running number", 5: "confirm train data",
@@ -561,7 +562,7 @@ def shortened(scenarios):
 
 def by_hand():
     """What takes the most of the heap: the room for all packets that a group may have is made before it closes. And each kind of call after a crowd
-    of gradients."""
+    of gradients. And readings and moments, of which the second one looks for a steady limit too, and finds none."""
     header = dict(zip(HEADER, (0, 7, 0, 255, 1, 9, 1)))
     parts = [("telegram", header | {"N_PIG": place}, [(SKIPPED, [("Q_DIR", 2)])] * 33) for place in range(8)]
     yield "telegram that closes a group of 264 packets", [*ENTERED, *parts]
@@ -569,7 +570,9 @@ def by_hand():
     *others, gradients, restrictions = before
     calls = [[*before, start], *([*before, start, *more, one] for more in ((), (last,)) for one in (*LAST, last)), [*before, start, "telegram 00"],
              [*before, start, restrictions], [*others, restrictions, start, gradients], [*before, start, parts[0]],
-             [*crowded(**TWICE, offset=131)[:-1], parts[0], "odometer 1301 50000"]]
+             [*crowded(**TWICE, offset=131)[:-1], parts[0], "odometer 1301 50000"],
+             *([*read_again(lines), *two] for _, kind, lines in kept() if kind in ("driver: start", "moment of the clock", "reading")
+               for two in itertools.product(("odometer 0 5000", "odometer 1 5000", "clock 1000000000000"), repeat=2))]
     for lines in calls:
         yield list(kinds_of([text_of(line) for line in lines]))[-1], lines
 

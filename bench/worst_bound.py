@@ -22,9 +22,10 @@ from mixed import in_plain_words  # noqa: E402
 from worst_search import ANEW, CROWDS, FORGOTTEN, GROWN, STAIRS, TWICE, anew, backwards, counted, crowded, forgetting, kept, stairs, text_of  # noqa: E402
 
 CALL = 10_000  # what a call takes that goes along nothing
-PIECE, SUMS = 44, 3  # of a sum for each gradient, and how many sums there are: two for the limit, one for a steady limit
-BACK, WALKS = 80, 3  # of a way back for each gradient before the brakes act, and how often each is passed, along with once for each lowering
-TARGET, LOWERED = 800, 2  # for each restriction, mode area and static speed, and for both last targets: it lowers the speed, and how often
+PIECE, SUMS = 44, 2  # of a sum for each gradient, and how many sums there are
+BACK, WALKS = 80, 2  # of a way back for each gradient before the brakes act, and how often each is passed, along with once for each lowering
+TARGET, LOWERED = 800, 1  # for each restriction, mode area and static speed, and for both last targets: it lowers the speed, and how often
+SEARCHED = 64  # for how many restrictions, gradients and static speeds, each, a steady limit is searched: one sum, one way back and one lowering more
 TURNS, TURN = 20, 40  # with a reaction time: how often a lowering halves, and what each time takes
 MOVED = 9  # for each gradient and static speed that is left, where the forgetting mark passes one
 KNOWN = 5  # of a start for each gradient and static speed: whether it is known
@@ -47,12 +48,12 @@ def starts_of(profile):
     return found
 
 
-def passed(starts, front, way, targets):
+def passed(starts, front, way, targets, more):
     """How many gradients are passed at most on the way back to where the brakes act at the speeds that are looked for. These lie on the way that the
     train runs before its brakes act at the speed that holds where it is, and for a steady limit as far on from the end of its window. Each lowering
     goes on where the one before it ended, in the gradient there."""
     there = sum(front < place <= front + way for place in starts) + 1
-    return WALKS * there + LOWERED * targets
+    return (WALKS + more) * there + (LOWERED + more) * targets
 
 
 def pieces_of(life):
@@ -77,10 +78,12 @@ def bound_of(lines, is_start):
     statics = 1 + sum(place > it.stretch.min_rear for place in speeds)
     targets = len(it.restrictions) + len(it.areas) + statics + 2
     way = -(-it.limit() * it.train.reaction_ms // 36_000)
-    window = 1_000 + life.speed() // 9
-    back = passed(starts, front, window + way, targets) if way else 0
+    rear, window = it.stretch.min_rear, 1_000 + life.speed() // 9
+    more = all(1 + sum(place > rear for place in places) <= SEARCHED for places in (starts, speeds)) and len(it.restrictions) <= SEARCHED
+    back = passed(starts, front, window * more + way, targets, more) if way else 0
     left = pieces_of(life)
-    most = CALL + (MOVED * left if pieces > left else 0) + PIECE * SUMS * gradients + BACK * back + LOWERED * targets * (TARGET + (TURNS * TURN if way else 0))
+    most = CALL + (MOVED * left if pieces > left else 0) + PIECE * (SUMS + more) * gradients + BACK * back
+    most += (LOWERED + more) * targets * (TARGET + (TURNS * TURN if way else 0))
     return most + (KNOWN * (gradients + statics) if is_start else 0), (gradients, targets, back)
 
 

@@ -792,7 +792,7 @@ def peer_reading(words):
 
 
 GROWN = ((345, 32, "far to near"), (690, 8, "far to near"), (690, 16, "far to near"), (690, 32, "far to near"), (690, 64, "far to near"),
-         (690, 128, "far to near"), (1380, 32, "far to near"), (690, 32, "near to far"), (690, 32, "by turns"))
+         (690, 128, "far to near"), (1380, 32, "far to near"), (690, 32, "near to far"), (690, 32, "by turns"), (60, 60, "far to near"))
 
 KINDS = ({"restricted": 10}, {"restricted": 20}, {"restricted": 40}, {"areas": 6}, {"areas": 12}, {"speeds": 12}, {"speeds": 24},
          {"restricted": 10, "areas": 10, "speeds": 10})

@@ -44,7 +44,7 @@ rows test_disk 502
 rows test_blocks 741
 rows test_journal 1100
 rows test_onboard 34585
-rows test_kernel 705
+rows test_kernel 711
 rows test_track 86
 rows test_guard 181
 rows test_json 12

@@ -171,7 +171,7 @@ fn halfway(low: Mph, high: Mph) -> Option<Mph>
     if part == 0 {
         None
     } else {
-        Mph::new(low.get() + part)
+        Some(Mph::new_unchecked(low.get() + part))
     }
 }
 
@@ -183,7 +183,7 @@ fn above(speed: Mph, limit: Mph) -> Mph
     ensures last { limit ≤ speed → result ≡ limit }
 {
     if speed < limit {
-        Mph::new(speed.get() + 1).unwrap()
+        Mph::new_unchecked(speed.get() + 1)
     } else {
         limit
     }
@@ -202,5 +202,5 @@ fn root(speed: Mph, taken_off: u64, limit: Mph, near: Mph) -> Mph
     while square < root * root {
         root = (root + square / root) / 2;
     }
-    Mph::new(root as u32).unwrap()
+    Mph::new_unchecked(root as u32)
 }

@@ -188,7 +188,7 @@ fn fastest_within(limit: Mph, reaction: Reaction, way: u64) -> Mph
 {
     let ms = u64::from(reaction.get());
     if 36_000 * way < u64::from(limit.get()) * ms {
-        Mph::new((36_000 * way / ms) as u32).unwrap()
+        Mph::new_unchecked((36_000 * way / ms) as u32)
     } else {
         limit
     }

@@ -16,7 +16,7 @@ fn gone_on(position: &Position, by: Cm) -> Datum<Position>
     if distance.unsigned_abs() > FARTHEST_OFFSET {
         return Datum::Invalid(*position);
     }
-    let distance = Cm::new(distance).unwrap();
+    let distance = Cm::new_unchecked(distance);
     Datum::Valid(Position::new(position.group(), distance).unwrap())
 }
 

@@ -82,7 +82,7 @@ impl Place {
             return Err(Overrun);
         }
         self.fix = fix;
-        Ok(GroupPlace::new(at).unwrap())
+        Ok(GroupPlace::new_unchecked(at))
     }
 
     /// The movements and the path of the life up to now, in centimetres.
@@ -98,8 +98,8 @@ impl Place {
         ensures { result ≡ place_at self.now.fix moment.now }
     {
         EarlierPlace {
-            estimate: GroupPlace::new(self.fix.estimate_at(moment)).unwrap(),
-            uncertainty: Cm::new(self.fix.uncertainty_at(moment) as i64).unwrap(),
+            estimate: GroupPlace::new_unchecked(self.fix.estimate_at(moment)),
+            uncertainty: Cm::new_unchecked(self.fix.uncertainty_at(moment) as i64),
         }
     }
 
@@ -108,7 +108,7 @@ impl Place {
         ensures value { result ≡ estimate self.now }
         ensures near { unsigned_abs result ≤ farthest }
     {
-        Cm::new(self.fix.estimate_at(&self.sums)).unwrap()
+        Cm::new_unchecked(self.fix.estimate_at(&self.sums))
     }
 
     /// How far the estimate lies beyond the place of the last fix, in centimetres.
@@ -116,7 +116,7 @@ impl Place {
         ensures value { result ≡ estimate self.now -ℤ self.now.fix.at }
         ensures near { unsigned_abs result ≤ 2 * farthest }
     {
-        Cm::new(self.fix.estimate_at(&self.sums) - self.fix.at.get()).unwrap()
+        Cm::new_unchecked(self.fix.estimate_at(&self.sums) - self.fix.at.get())
     }
 
     /// How far the estimate may be wrong, to either side, in centimetres: the accuracy of the fix, 500, a twentieth of
@@ -125,7 +125,7 @@ impl Place {
         ensures value { result ≡ pos (uncertainty self.now) }
         ensures near { unsigned_abs result ≤ farthest + 2 ^ 37 }
     {
-        Cm::new(self.fix.uncertainty_at(&self.sums) as i64).unwrap()
+        Cm::new_unchecked(self.fix.uncertainty_at(&self.sums) as i64)
     }
 
     /// The minimum safe front (3.6.4), in centimetres: the estimate less the uncertainty.
@@ -170,10 +170,9 @@ fn stretch_about(estimate: Cm, uncertainty: u64, length: Length) -> Stretch
     let min_front = estimate.get() - uncertainty as i64;
     let max_front = estimate.get() + uncertainty as i64;
     let rear = min_front - length.get() as i64;
-    Stretch::new(
-        Cm::new(rear).unwrap(),
-        Cm::new(min_front).unwrap(),
-        Cm::new(max_front).unwrap(),
+    Stretch::new_unchecked(
+        Cm::new_unchecked(rear),
+        Cm::new_unchecked(min_front),
+        Cm::new_unchecked(max_front),
     )
-    .unwrap()
 }

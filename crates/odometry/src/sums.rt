@@ -36,14 +36,14 @@ impl Sums {
         ensures value { result ≡ self.now.moved }
         ensures near { unsigned_abs result ≤ farthest }
     {
-        Cm::new(self.moved).unwrap()
+        Cm::new_unchecked(self.moved)
     }
 
     /// The path, in centimetres: from 0 to 2^40. It never falls within a life.
     pub fn path(&self) -> Length
         ensures { result ≡ self.now.path }
     {
-        Length::new(self.path).unwrap()
+        Length::new_unchecked(self.path)
     }
 
     /// The sums after one movement more; None exactly where the path would be too long.

@@ -129,5 +129,5 @@ fn one_faster(speed: Mph, limit: Mph) -> Mph
     ensures { result ≡ speed + 1 }
 {
     let _limits = limit.get();
-    Mph::new(speed.get() + 1).unwrap()
+    Mph::new_unchecked(speed.get() + 1)
 }

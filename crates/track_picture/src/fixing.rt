@@ -93,7 +93,7 @@ fn fix_wanted(free: bool, own: GroupPlace, announced: &Option<Announcement>) -> 
             let accuracy = 100 * announcement.accuracy.number();
             Some(Wanted {
                 place: announcement.place,
-                accuracy: Length::new(accuracy).unwrap(),
+                accuracy: Length::new_unchecked(accuracy),
             })
         }
         None if free => Some(Wanted {

@@ -23,7 +23,7 @@ fn forgetting_mark(train: &Stretch) -> Cm
     requires { HasReach train.now.rear }
     ensures { result ≡ forgetting_mark train.now }
 {
-    Cm::new(train.rear().get() - REMEMBERED).unwrap()
+    Cm::new_unchecked(train.rear().get() - REMEMBERED)
 }
 
 impl Parts {

@@ -51,6 +51,14 @@ impl Cm {
         }
     }
 
+    /// So many centimetres, which are proved to lie within the limits, so nothing is compared.
+    pub fn new_unchecked(cm: i64) -> Cm
+        requires { IsCm cm }
+        ensures { result ≡ cm }
+    {
+        Cm { cm }
+    }
+
     /// The number of centimetres.
     pub fn get(self) -> i64
         ensures value { result ≡ self }
@@ -81,7 +89,7 @@ impl Cm {
         ensures value { result ≡ self +ℤ pos by }
         ensures near { unsigned_abs result ≤ unsigned_abs self + reach }
     {
-        Cm::new(self.cm + i64::from(by.get())).unwrap()
+        Cm::new_unchecked(self.cm + i64::from(by.get()))
     }
 
     /// The place `by` back. The caller owes a place so far within the limits that any `Reach` from it is a `Cm`.
@@ -89,6 +97,6 @@ impl Cm {
         requires { HasReach self }
         ensures { result ≡ self -ℤ pos by }
     {
-        Cm::new(self.cm - i64::from(by.get())).unwrap()
+        Cm::new_unchecked(self.cm - i64::from(by.get()))
     }
 }

@@ -41,6 +41,14 @@ impl GroupPlace {
         }
     }
 
+    /// So many centimetres, which are proved to lie within the limits, so nothing is compared.
+    pub fn new_unchecked(cm: i64) -> GroupPlace
+        requires { IsGroupPlace cm }
+        ensures { result ≡ cm }
+    {
+        GroupPlace { cm }
+    }
+
     /// The number of centimetres.
     pub fn get(self) -> i64
         ensures value { result ≡ self }
@@ -54,7 +62,7 @@ impl GroupPlace {
         ensures value { result ≡ self }
         ensures limits { IsGroupPlace result }
     {
-        Cm::new(self.cm).unwrap()
+        Cm::new_unchecked(self.cm)
     }
 
     /// The place so far ahead of it.

@@ -42,6 +42,14 @@ impl Length {
         }
     }
 
+    /// So many centimetres, which are proved to lie within the limits, so nothing is compared.
+    pub fn new_unchecked(cm: u64) -> Length
+        requires { IsLength cm }
+        ensures { result ≡ cm }
+    {
+        Length { cm }
+    }
+
     /// The number of centimetres.
     pub fn get(self) -> u64
         ensures value { result ≡ self }

@@ -39,6 +39,14 @@ impl Mph {
         }
     }
 
+    /// So many metres per hour, which are proved to lie within the limits, so nothing is compared.
+    pub fn new_unchecked(mph: u32) -> Mph
+        requires { IsMph mph }
+        ensures { result ≡ mph }
+    {
+        Mph { mph }
+    }
+
     /// The number of metres per hour.
     pub fn get(self) -> u32
         ensures value { result ≡ self }

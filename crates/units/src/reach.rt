@@ -54,6 +54,6 @@ impl Reach {
         ensures value { result ≡ pos self }
         ensures limits { IsReach self }
     {
-        Cm::new(i64::from(self.cm)).unwrap()
+        Cm::new_unchecked(i64::from(self.cm))
     }
 }

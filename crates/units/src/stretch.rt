@@ -44,6 +44,18 @@ impl Stretch {
         }
     }
 
+    /// The stretch of these three places, which are proved to be in this order, so nothing is compared.
+    pub fn new_unchecked(rear: Cm, min_front: Cm, max_front: Cm) -> Stretch
+        requires { IsOrdered rear min_front max_front }
+        ensures { result ≡ record { rear = rear; min_front = min_front; max_front = max_front } }
+    {
+        Stretch {
+            rear,
+            min_front,
+            max_front,
+        }
+    }
+
     /// The least place of the train's rear: the minimum safe rear.
     pub fn rear(&self) -> Cm
         ensures value { result ≡ self.now.rear }

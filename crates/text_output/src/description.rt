@@ -15,14 +15,3 @@ pub fn describe<W: Write>(out: &mut W, line: &str, status: Status) -> io::Result
     writeln!(out, "{line}")?;
     Ok(status)
 }
-
-/// Writes two texts, the second right after the first. By `write!` a line takes three times as many instructions. The
-/// error is that of a write.
-#[inline(always)]
-pub fn write_texts<W: Write>(first: &str, second: &str, out: &mut W) -> io::Result<()>
-    ensures { OnOk result (Appends (W.contents out.old) (W.contents out.new) (first.now ++ second.now)) }
-{
-    out.write_all(first.as_bytes())?;
-    out.write_all(second.as_bytes())?;
-    Ok(())
-}

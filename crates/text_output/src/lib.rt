@@ -3,13 +3,15 @@
 #![tactic(auto)]
 
 mod description;
+mod line;
 mod output_line;
 mod output_names;
 mod piece;
 mod status;
 mod writing;
 
-pub use description::{describe, write_texts};
+pub use description::describe;
+pub use line::append;
 pub use output_line::write_line;
 pub use output_names::{brake_name, level_name, mode_name};
 pub use piece::{Form, Piece, known, shared_text};

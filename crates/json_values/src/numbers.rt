@@ -1,6 +1,6 @@
 //! The whole number that a number of JSON writes.
-ghost use Rattle.std.specs.Prelude.{◌≡◌, ◌==◌, ◌<◌, IsTrue, OnSome, Some, is_some, slice_index, length, true, false, option_and_then, option_map};
-ghost use Rattle.serde_json.specs.Data.{Num};
+ghost use Rattle.std.specs.Prelude.{◌≡◌, ◌==◌, ◌<◌, ◌^◌, IsTrue, OnSome, IfSome, Some, is_some, slice_index, length, true, false, option_and_then, option_map};
+ghost use Rattle.serde_json.specs.Data.{Num, unsigned};
 ghost use Rattle.serde_json.specs.Find.{as_i64};
 ghost use Rattle.serde_json.specs.Read.{number_of, number_from};
 
@@ -33,8 +33,9 @@ fn negative(numeral: &Numeral<'_>) -> Option<i64>
     }
 }
 
-/// The whole number of 64 bits that the text of a number writes; None where it is another number, as `1.0` and `-0` are.
-pub(crate) fn whole(text: &str) -> Option<i64>
+// What `whole` answers, of any number.
+#[inline(never)]
+fn scanned(text: &str) -> Option<i64>
     ensures value { (n : Num) → number_of text.now ≡ Some n → result ≡ as_i64 n }
     ensures some { OnSome result (is_some (number_of text.now) ≡ true) }
 {
@@ -46,18 +47,41 @@ pub(crate) fn whole(text: &str) -> Option<i64>
     }
 }
 
-/// Whether the text is 1 to 19 digits, as most numbers are: a whole number of 64 bits.
-pub(crate) fn is_short(text: &str) -> bool
-    ensures { IsTrue result → is_some (number_of text.now) ≡ true }
+// The number that 1 to 18 digits write, as most numbers do; None for any other text.
+#[inline(always)]
+fn short(text: &str) -> Option<u64>
+    ensures { IfSome result (λ n. (number_of text.now ≡ Some (unsigned n)) × (n < 2 ^ 63)) }
 {
     let bytes = text.as_bytes();
-    if bytes.is_empty() || bytes.len() > 19 {
-        return false;
+    if bytes.is_empty() || bytes.len() > 18 {
+        return None;
     }
+    let mut number: u64 = 0;
     for byte in bytes {
-        if !byte.is_ascii_digit() {
-            return false;
+        let digit = u64::from(*byte);
+        if digit < 48 || digit > 57 {
+            return None;
         }
+        number = number * 10 + (digit - 48);
     }
-    true
+    Some(number)
+}
+
+/// The whole number of 64 bits that the text of a number writes; None where it is another number, as `1.0` and `-0` are.
+pub(crate) fn whole(text: &str) -> Option<i64>
+    ensures value { (n : Num) → number_of text.now ≡ Some n → result ≡ as_i64 n }
+    ensures some { OnSome result (is_some (number_of text.now) ≡ true) }
+{
+    match short(text) {
+        Some(number) => Some(number as i64),
+        None => scanned(text),
+    }
+}
+
+/// Whether the text of a number writes a whole one of 64 bits.
+#[inline(always)]
+pub(crate) fn is_whole(text: &str) -> bool
+    ensures { IsTrue result → is_some (number_of text.now) ≡ true }
+{
+    short(text).is_some() || scanned(text).is_some()
 }

@@ -1,5 +1,6 @@
 //! The only name of an object, with its value.
-ghost use Rattle.std.specs.Prelude.{◌≡◌, ◌==◌, true, false, is_some, MatchOption, Some};
+ghost use Rattle.std.specs.Prelude.{◌≡◌, ◌==◌, true, false, is_some, not, MatchOption, Some};
+ghost use Rattle.std.specs.Str.{bytes_eq};
 ghost use Rattle.json.specs.Json as spec;
 ghost use Rattle.json.specs.Find.{InMembers};
 ghost use Rattle.serde_json.specs.Data as reported;
@@ -13,6 +14,14 @@ ghost use Rattle.json_values.specs.Shapes.{has_members, object_of_one};
 use json::{Element, Members};
 use serde_json::Value;
 
+// Whether two names differ. It isn't inlined, since few objects of one name have it twice.
+#[inline(never)]
+fn differ(name: &str, other: &str) -> bool
+    ensures { result ≡ not (bytes_eq name.now other.now) }
+{
+    name != other
+}
+
 /// The one name of members and where its last value begins.
 pub(crate) fn only_of<'t, 'a>(mut members: Members<'t, 'a>) -> Option<(&'a str, Element<'t, 'a>)>
     ensures { (ms : spec.Members) → InMembers members.entry ms → (found : reported.Members) → of_members ms no_members ≡ Some found
@@ -23,7 +32,7 @@ pub(crate) fn only_of<'t, 'a>(mut members: Members<'t, 'a>) -> Option<(&'a str, 
         return None;
     };
     while let Some((other, element)) = members.next() {
-        if name != other {
+        if differ(name, other) {
             return None;
         }
         last = element;

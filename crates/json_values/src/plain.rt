@@ -6,7 +6,7 @@ ghost use Rattle.json_values.specs.Places.{read_at, data_at};
 ghost use Rattle.json_values.specs.Plain.{is_plain};
 ghost use Rattle.std.specs.Prelude.{IsUtf8};
 
-use crate::numbers::{is_short, whole};
+use crate::numbers::is_whole;
 use crate::placed::Placed;
 use json::{Node, Scratch, Tape};
 use std::alloc::Global;
@@ -36,7 +36,7 @@ fn is_plain(nodes: &[Node<'_>]) -> bool
             }
             Node::EndObject | Node::EndArray => open = open.saturating_sub(1),
             Node::Number(text) => {
-                if !is_short(text) && whole(text).is_none() {
+                if !is_whole(text) {
                     return false;
                 }
             }

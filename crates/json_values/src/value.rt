@@ -1,7 +1,7 @@
 //! One JSON value, and the items of a list.
-ghost use Rattle.std.specs.Prelude.{◌≡◌, ◌==◌, ◌≤◌, ◌∷◌, [], nat_le, is_some, option_map, option_and_then, true, false, MatchOption, slice_get, length};
+ghost use Rattle.std.specs.Prelude.{◌≡◌, ◌==◌, ◌≤◌, ◌∷◌, [], nat_le, is_some, option_map, option_and_then, true, false, MatchOption, Some, slice_get, length};
 ghost use Rattle.serde_json.specs.Find.{as_str, as_bool, as_number, as_i64, get};
-ghost use Rattle.json_values.specs.Looking.{reported, reported_items, listed};
+ghost use Rattle.json_values.specs.Looking.{reported, reported_items, list_or_nothing, listed};
 ghost use Rattle.json_values.specs.Shapes.{has_members, object_of_one, list_in};
 
 use crate::only::only_entry;
@@ -115,6 +115,19 @@ impl<'t, 'a> JsonValue<'t, 'a> {
                 Some(items) => Some(JsonItems::Tree(items.as_slice())),
                 None => None,
             },
+        }
+    }
+
+    /// The items, where the value is a list of two.
+    pub fn as_pair(&self) -> Option<(JsonValue<'t, 'a>, JsonValue<'t, 'a>)>
+        ensures { MatchOption result ((length (list_or_nothing (list_in (reported self.now))) == 2) ≡ false)
+            (λ r. list_in (reported self.now) ≡ Some (reported r.0 ∷ reported r.1 ∷ [])) }
+    {
+        let (first, rest) = self.items()?.split_first()?;
+        let (second, rest) = rest.split_first()?;
+        match rest.split_first() {
+            Some(_) => None,
+            None => Some((first, second)),
         }
     }
 

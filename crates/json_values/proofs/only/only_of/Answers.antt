@@ -25,8 +25,8 @@ loop-other-init c ms inside final made =
     let h = held c.in-Some.last f.0 one.0 f.3 one.2 in
     (f.1, f.4, h.0, ap (λ d. of_members f.1 (member name d no_members)) h.1 ∙ one.1)
 
-pub returns-then-ne : goal.returns-then-ne
-returns-then-ne c ms inside final made =
+pub returns-then-differ : goal.returns-then-differ
+returns-then-differ c ms inside final made =
     let name = c.in-Some.name.now in
     let other = c.in-Some-next.other.now in
     let d = data_at c.loop-other.last in

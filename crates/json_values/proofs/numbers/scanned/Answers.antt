@@ -1,7 +1,7 @@
 use Rattle.std.proofs.Common.{◌≡◌, drop, true, OnSome, is_some, ap, ◌∙◌, subst, arith, take_all, length-drop}
 use Rattle.fast_float.specs.Text.{scan}
 use Rattle.json_values.proofs.Written.{below_zero, not_below}
-use Rattle.json_values.proofs.numbers.whole.Goals as goal
+use Rattle.json_values.proofs.numbers.scanned.Goals as goal
 
 pub returns-then-has_minus-clause-value : goal.returns-then-has_minus-clause-value
 returns-then-has_minus-clause-value c n e =

@@ -132,16 +132,13 @@ fn supervised_train<T: ProfileStores>(supervision: &SupervisionOver<T>) -> Optio
 fn searched_train<T: ProfileStores>(supervision: &SupervisionOver<T>) -> Option<TrainData>
     ensures { (life : Life) → StandsForLife T.stores supervision.now life → IfSome result (λ train. permitted_speed life train ≡ limit life) }
 {
+    let train = supervised_train(supervision)?;
     let track = supervision.track();
     let from = supervision.stretch().rear();
     let is_short = track.restrictions().as_slice().len() <= MOST_PIECES
         && has_few_pieces(track.speeds(), from)
         && has_few_pieces(track.gradients(), from);
-    if is_short {
-        supervised_train(supervision)
-    } else {
-        None
-    }
+    if is_short { Some(train) } else { None }
 }
 
 // Whether a profile has no more pieces than a search goes along, from a place on.

@@ -15,33 +15,30 @@ use packets::{DangerPoint, EndTimer, MovementAuthority, Overlap, Section};
 use units::{Cm, GroupPlace, Ms};
 use vars::{Distance, Scale, Timer};
 
-/// What is stored of an authority that is accepted at a moment, in milliseconds. Its sections count from the place of
-/// its group, in centimetres.
-pub fn stored_by(packet: &MovementAuthority, place: GroupPlace, moment: Ms) -> Stored
-    ensures { result ≡ stored_of (fact_of packet.now place moment) [] }
+/// Stores an authority that is accepted at a moment, in milliseconds, in place of another. Its sections count from the
+/// place of its group, in centimetres.
+pub fn store(stored: &mut Stored, packet: &MovementAuthority, place: GroupPlace, moment: Ms)
+    ensures { stored.new ≡ stored_of (fact_of packet.now place moment) [] }
 {
     let scale = packet.scale;
-    let mut timed = ArrayVec::new();
+    stored.timed.clear();
     let mut at = place.to_cm();
     let sections = packet.sections.as_slice();
     for section in sections {
-        push_timed(&mut timed, scale, at, section);
+        push_timed(&mut stored.timed, scale, at, section);
         at = at.ahead(section.length.in_scale(scale));
     }
-    push_timed(&mut timed, scale, at, &packet.end_section);
+    push_timed(&mut stored.timed, scale, at, &packet.end_section);
     let end = at.ahead(packet.end_section.length.in_scale(scale));
-    Stored {
-        accepted: moment,
-        timed,
-        end_entry: at,
-        end,
-        main_speed: packet.speed.speed(),
-        end_speed: packet.end_speed.speed(),
-        end_time: packet.end_time,
-        end_timer: end_timer_by(end, scale, &packet.end_timer),
-        danger_point: point_by(end, scale, &packet.danger_point),
-        overlap: overlap_by(end, scale, &packet.overlap),
-    }
+    stored.accepted = moment;
+    stored.end_entry = at;
+    stored.end = end;
+    stored.main_speed = packet.speed.speed();
+    stored.end_speed = packet.end_speed.speed();
+    stored.end_time = packet.end_time;
+    stored.end_timer = end_timer_by(end, scale, &packet.end_timer);
+    stored.danger_point = point_by(end, scale, &packet.danger_point);
+    stored.overlap = overlap_by(end, scale, &packet.overlap);
 }
 
 // Appends a section that has a timer.

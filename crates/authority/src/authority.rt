@@ -5,7 +5,7 @@ ghost use Rattle.authority.specs.Entries.AuthorityEntry.{Ticked, Accepted, Passe
 ghost use Rattle.authority.specs.Authority.{end_of, main_speed_of};
 ghost use Rattle.authority.specs.Known.{known};
 
-use crate::accepting::stored_by;
+use crate::accepting::store;
 use crate::answers::End;
 use crate::stored::Stored;
 use packets::MovementAuthority;
@@ -44,10 +44,13 @@ impl Authority {
     pub fn accept(&mut self, packet: &MovementAuthority, place: GroupPlace, moment: Ms)
         ensures { (entries : List AuthorityEntry) → self.new ≡ known (Accepted (fact_of packet.now place moment) ∷ entries) }
     {
-        *self = Authority {
-            moment,
-            stored: Some(stored_by(packet, place, moment)),
-        };
+        self.moment = moment;
+        if self.stored.is_none() {
+            self.stored = Some(Stored::default());
+        }
+        if let Some(stored) = &mut self.stored {
+            store(stored, packet, place, moment);
+        }
     }
 
     /// Moves the clock to a moment of the life, in milliseconds. The caller owes moments that don't fall.

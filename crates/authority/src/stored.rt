@@ -6,7 +6,7 @@ use crate::answers::{End, Release};
 use crate::timers::{PlaceTimer, TimedSection, is_over};
 use arrayvec::ArrayVec;
 use units::{Cm, Mph, Ms, Stretch};
-use vars::Timer;
+use vars::{Timer, Variable};
 
 /// How many sections an authority has at most: the 31 that a packet 12 lists, and the end section.
 pub const MOST_SECTIONS: usize = 32;
@@ -53,6 +53,24 @@ pub struct Stored {
     pub danger_point: Option<Point>,
     /// The overlap, where it has one.
     pub overlap: Option<TimedOverlap>,
+}
+
+/// An authority to be filled.
+impl Default for Stored {
+    fn default() -> Stored {
+        Stored {
+            accepted: Ms::new(0).unwrap(),
+            timed: ArrayVec::new(),
+            end_entry: Cm::ZERO,
+            end: Cm::ZERO,
+            main_speed: Mph::new(0).unwrap(),
+            end_speed: Mph::new(0).unwrap(),
+            end_time: Timer::of_number(0).unwrap(),
+            end_timer: None,
+            danger_point: None,
+            overlap: None,
+        }
+    }
 }
 
 /// What is seen after an event.

@@ -7,6 +7,7 @@ ghost use Rattle.balise_groups.specs.PacketCounts.{most_packets, packets_at, pac
 
 mod hearing;
 
+use crate::closing::empty;
 use crate::message::Closed;
 use crate::reading::Reading;
 use crate::readings::Readings;
@@ -134,12 +135,12 @@ impl Assembler {
     {
         if goes_on(&reading, &self.last) {
             self.last = Some(seen_at(&reading));
-            *ended = None;
-            *whole = None;
+            empty(ended);
+            empty(whole);
             return;
         }
         if goes_on(&reading, &self.current) {
-            *ended = None;
+            empty(ended);
         } else {
             self.end(ended);
         }
@@ -232,7 +233,7 @@ impl Assembler {
         if self.readings.are_whole() {
             self.end(whole);
         } else {
-            *whole = None;
+            empty(whole);
         }
     }
 }

@@ -1,5 +1,5 @@
 //! The readings of a group become its message, or the cause why it has none.
-ghost use Rattle.std.specs.Prelude.{◌≡◌, ℕ, ◌+◌, ◌<◌, ◌≤◌, List, [], ◌∷◌, ◌++◌, length, map};
+ghost use Rattle.std.specs.Prelude.{◌≡◌, ℕ, ◌+◌, ◌<◌, ◌≤◌, List, [], ◌∷◌, ◌++◌, length, map, None};
 ghost use Rattle.std.specs.List.{list_any};
 ghost use Rattle.balise_groups.specs.Description.{reported_by};
 ghost use Rattle.balise_groups.specs.Closing.{all_below, is_at, is_read, is_whole, is_of_next, is_of_previous, covers, is_covered, same_flag, differs, disagrees, is_refused, cause_of, direction_of, reading_at, telegrams_at, telegrams_below, message_of, close_of};
@@ -7,7 +7,8 @@ ghost use Rattle.balise_groups.specs.Closing.{all_below, is_at, is_read, is_whol
 use crate::group_packets::GroupPackets;
 use crate::message::{Broken, Cause, Closed, Message};
 use crate::reading::Reading;
-use telegram::Gathered;
+use odometry::Sums;
+use telegram::{Gathered, Header};
 use vars::{Duplicate, LinkOrientation, Variable};
 
 fn is_at(reading: &Reading, place: u64) -> bool
@@ -205,30 +206,51 @@ fn add_telegram(telegrams: &mut Gathered, readings: &[Reading], place: u64)
     }
 }
 
-// The packets of the telegrams, in order of place.
+// Puts the packets of the telegrams, in order of place, in the place of others.
 #[tactic(auto, using(crate::proofs::Description::reported_used))]
-fn packets(readings: &[Reading], places: u64) -> GroupPackets
+fn gather(packets: &mut GroupPackets, readings: &[Reading], places: u64)
     requires { places ≤ 8 }
-    ensures { result ≡ reported_by (telegrams_below places readings.now) }
+    ensures { packets.new ≡ reported_by (telegrams_below places readings.now) }
 {
-    let mut telegrams = Gathered::new();
+    packets.telegrams = Gathered::new();
     for place in 0..places {
-        add_telegram(&mut telegrams, readings, place);
+        add_telegram(&mut packets.telegrams, readings, place);
     }
-    GroupPackets { telegrams }
 }
 
-fn message(first: &Reading, readings: &[Reading]) -> Message
-    ensures { result ≡ message_of first.now readings.now }
+// A message to be filled.
+fn blank() -> Message {
+    Message {
+        group: Header::default().group,
+        linked: false,
+        direction: None,
+        sums: Sums::ZERO,
+        missed: false,
+        packets: GroupPackets {
+            telegrams: Gathered::new(),
+        },
+    }
+}
+
+// Puts a message in the place of another.
+fn fill(message: &mut Message, first: &Reading, readings: &[Reading])
+    ensures { message.new ≡ message_of first.now readings.now }
 {
     let header = first.telegram.header();
-    Message {
-        group: header.group,
-        linked: header.linked,
-        direction: direction(readings),
-        sums: place(first, readings).sums,
-        missed: !was_read(readings, 0),
-        packets: packets(readings, places(first)),
+    message.group = header.group;
+    message.linked = header.linked;
+    message.direction = direction(readings);
+    message.sums = place(first, readings).sums;
+    message.missed = !was_read(readings, 0);
+    gather(&mut message.packets, readings, places(first));
+}
+
+/// Nothing closes. A place that is empty stays as it is, since `None` is written as wide as a message.
+pub fn empty(closed: &mut Option<Closed>)
+    ensures { closed.new ≡ None }
+{
+    if closed.is_some() {
+        *closed = None;
     }
 }
 
@@ -238,11 +260,16 @@ pub fn close(readings: &[Reading], closed: &mut Option<Closed>)
     ensures { closed.new ≡ close_of readings.now }
 {
     let Some(first) = readings.first() else {
-        *closed = None;
+        empty(closed);
         return;
     };
     match cause(first, readings) {
-        None => *closed = Some(Closed::Whole(message(first, readings))),
+        None => {
+            *closed = Some(Closed::Whole(blank()));
+            if let Some(Closed::Whole(message)) = closed {
+                fill(message, first, readings);
+            }
+        }
         Some(cause) => {
             let header = first.telegram.header();
             *closed = Some(Closed::Broken(Broken {

@@ -27,7 +27,7 @@ pub returns-clause-few : goal.returns-clause-few
 returns-clause-few c =
     let whole = joined_space _ c.if-goes_on-2.self.readings c.args.reading c.join.ensures.answer in
     elim c.if-goes_on-2.branch [
-      | then-goes_on-2 w ↦ omega (arith, whole, ap packets_of_closed w.ended-is, ap (λ (k : KnownGroups). packets_in k.readings) w.self-is)
+      | then-goes_on-2 w ↦ omega (arith, whole, ap packets_of_closed w.empty-then-goes_on-2.ensures, ap packets_of_closed w.ended-is, ap (λ (k : KnownGroups). packets_in k.readings) w.self-is)
       | else-goes_on-2 w ↦
           let ended = closing_space _ _ w.end.ensures.answer in
           omega (arith, whole, ended, ap packets_of_closed w.ended-is, ap (λ (k : KnownGroups). packets_in k.readings) w.self-is, ap packets_in w.end.ensures.none)

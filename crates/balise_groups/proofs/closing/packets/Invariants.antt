@@ -1,9 +1,0 @@
-use Rattle.std.proofs.Common.{◌≡◌, ◌≤◌, length, map}
-use Rattle.balise_groups.specs.Closing.{telegrams_below}
-use Rattle.balise_groups.proofs.closing.packets.Given as goal
-
-abbrev pub invariant-loop-place : goal.invariant-loop-place
-invariant-loop-place l = record {
-  reported : l.telegrams ≡ map (λ t. t.packets.items) (telegrams_below l.place l.readings);
-  few : length l.telegrams ≤ l.place;
-}

@@ -74,6 +74,7 @@ impl Course {
     }
 
     // One more event, after a flush where there is no space for it.
+    #[inline(always)]
     fn accept(&mut self, input: Input) -> Result<(), NoMemory>
         ensures ok { OnOk result (run_of self.new ≡ accepted input (run_of self.old)) }
     {
@@ -173,6 +174,7 @@ impl Course {
 
     /// Takes a step that is asked for, which moves the front by at most 1,000,000 cm. NoMemory where memory was
     /// refused; the course may then have a part of the step. The caller owes a front within 2^99 cm of the start.
+    #[inline(always)]
     pub fn take(&mut self, track: &Track, step: StepKind) -> Result<(), NoMemory>
         requires low { neg_ℤ (pos (2 ^ 99)) ≤ℤ self.old.front }
         requires high { self.old.front ≤ℤ pos (2 ^ 99) }

@@ -6,7 +6,7 @@ ghost use Rattle.simulator.specs.Passing.{passed};
 ghost use Rattle.simulator.specs.Lives.{ends_by, ends_in};
 
 use crate::ScenarioFault;
-use crate::asking::step_kind_of;
+use crate::asking::take_step;
 use crate::driving::Course;
 use crate::lives::{items_at, track_of};
 use crate::track::Track;
@@ -39,8 +39,7 @@ fn count(
     let mut left = items.items();
     let mut taken: u64 = 0;
     while let Some((item, rest)) = left.split_first() {
-        let step = step_kind_of(alloc, &item)?;
-        course.take(track, step)?;
+        take_step(alloc, &item, track, course)?;
         note(course, ends)?;
         // No text has so many steps.
         if taken == u64::MAX {

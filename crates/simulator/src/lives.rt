@@ -9,7 +9,7 @@ ghost use Rattle.simulator.specs.Groups.{groups};
 ghost use Rattle.simulator.specs.Lives.{lived, steps_in, has_keys, cold_value, cold_of, items_at, life_in};
 
 use crate::ScenarioFault;
-use crate::asking::step_kind_of;
+use crate::asking::take_step;
 use crate::driving::Course;
 use crate::groups::lay_all;
 use crate::track::Track;
@@ -98,8 +98,7 @@ fn live(
     let mut left = items.items();
     let mut count: u64 = 0;
     while let Some((item, rest)) = left.split_first() {
-        let step = step_kind_of(alloc, &item)?;
-        course.take(track, step)?;
+        take_step(alloc, &item, track, course)?;
         // No text has so many steps.
         if count == u64::MAX {
             return Err(ScenarioFault::NoMemory);

@@ -8,9 +8,11 @@ ghost use Rattle.simulator.specs.Parts.{number_in};
 ghost use Rattle.simulator.specs.Steps.{step_of};
 
 use crate::ScenarioFault;
-use crate::asking::step_kind_of;
+use crate::asking::take_step;
+use crate::driving::Course;
 use crate::groups::{lay_group, lay_one};
 use crate::lives::cold_in;
+use crate::track::Track;
 use crate::values::within;
 use json_values::JsonValue;
 use serde_json::Value;
@@ -64,5 +66,10 @@ pub fn fault_of_spacing(value: &Value) -> Option<ScenarioFault>
 pub fn fault_of_step(alloc: Global, value: &Value) -> Option<ScenarioFault>
     ensures { (result ≡ Some ScenarioFault.NoMemory) ⊎ (result ≡ result_err (step_of (view value.now))) }
 {
-    step_kind_of(alloc, &JsonValue::Tree(value)).err()
+    let track = match Track::new(Vec::new(alloc)) {
+        Ok(track) => track,
+        Err(_) => return Some(ScenarioFault::NoMemory),
+    };
+    let mut course = Course::new(alloc);
+    take_step(alloc, &JsonValue::Tree(value), &track, &mut course).err()
 }

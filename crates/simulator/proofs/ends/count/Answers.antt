@@ -8,11 +8,11 @@ use Rattle.simulator.specs.Steps.{step_of}
 use Rattle.simulator.specs.Lives.{ends_by}
 use Rattle.simulator.proofs.ends.count.Goals as goal
 
-pub take-requires-clause-low : goal.take-requires-clause-low
-take-requires-clause-low c = omega (arith, ints, c.loop-item.invariant.low, c.loop-item.invariant.fits)
+pub take_step-requires-clause-low : goal.take_step-requires-clause-low
+take_step-requires-clause-low c = omega (arith, ints, c.loop-item.invariant.low, c.loop-item.invariant.fits)
 
-pub take-requires-clause-high : goal.take-requires-clause-high
-take-requires-clause-high c = omega (arith, ints, c.loop-item.invariant.high, c.loop-item.invariant.fits)
+pub take_step-requires-clause-high : goal.take_step-requires-clause-high
+take_step-requires-clause-high c = omega (arith, ints, c.loop-item.invariant.high, c.loop-item.invariant.fits)
 
 pub loop-item-preserved : goal.loop-item-preserved
 loop-item-preserved c =
@@ -22,13 +22,12 @@ loop-item-preserved c =
     let more : ends_by ahead (reported_items c.loop-item.left) run so_far
     ≡ (step_of (reported c.in-Some.item) >>= λ step. ends_by ahead (reported_items c.in-Some.rest) (taken ahead step run) (so_far ++ length (taken ahead step run).steps ∷ [])) =
     ap (λ ds. ends_by ahead ds run so_far) c.in-Some.ensures in
-    let one = c.in_ok-step.ensures.ok in
-    let next = c.in_ok-take.ensures.ok in
+    let asked = c.in_ok-take_step.ensures.ok in
     record {
       fits = grind arith;
       so_far =
-          ap (λ (ends : List ℕ). ends_by ahead (reported_items c.in-Some.rest) (run_of c.take.new.self) ends) c.in_ok-note.ensures.ok
-          ∙ sym (rw (one, ← next) at more) ∙ c.loop-item.invariant.so_far;
-      low = omega (arith, ints, c.loop-item.invariant.low, c.in_ok-take.ensures.least);
-      high = omega (arith, ints, c.loop-item.invariant.high, c.in_ok-take.ensures.most);
+          ap (λ (ends : List ℕ). ends_by ahead (reported_items c.in-Some.rest) (run_of c.take_step.new.course) ends) c.in_ok-note.ensures.ok
+          ∙ sym (rw (asked.1, ← asked.2) at more) ∙ c.loop-item.invariant.so_far;
+      low = omega (arith, ints, c.loop-item.invariant.low, c.in_ok-take_step.ensures.least);
+      high = omega (arith, ints, c.loop-item.invariant.high, c.in_ok-take_step.ensures.most);
     }

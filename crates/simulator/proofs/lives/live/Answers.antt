@@ -8,11 +8,11 @@ use Rattle.simulator.specs.Steps.{step_of}
 use Rattle.simulator.specs.Lives.{lived}
 use Rattle.simulator.proofs.lives.live.Goals as goal
 
-pub take-requires-clause-low : goal.take-requires-clause-low
-take-requires-clause-low c = omega (arith, ints, c.loop-item.invariant.low, c.loop-item.invariant.fits)
+pub take_step-requires-clause-low : goal.take_step-requires-clause-low
+take_step-requires-clause-low c = omega (arith, ints, c.loop-item.invariant.low, c.loop-item.invariant.fits)
 
-pub take-requires-clause-high : goal.take-requires-clause-high
-take-requires-clause-high c = omega (arith, ints, c.loop-item.invariant.high, c.loop-item.invariant.fits)
+pub take_step-requires-clause-high : goal.take_step-requires-clause-high
+take_step-requires-clause-high c = omega (arith, ints, c.loop-item.invariant.high, c.loop-item.invariant.fits)
 
 pub loop-item-preserved : goal.loop-item-preserved
 loop-item-preserved c =
@@ -20,11 +20,10 @@ loop-item-preserved c =
     let run = run_of c.loop-item.course in
     let more : lived ahead (reported_items c.loop-item.left) run ≡ (step_of (reported c.in-Some.item) >>= λ step. lived ahead (reported_items c.in-Some.rest) (taken ahead step run)) =
     ap (λ ds. lived ahead ds run) c.in-Some.ensures in
-    let one = c.in_ok-step.ensures.ok in
-    let next = c.in_ok-take.ensures.ok in
+    let asked = c.in_ok-take_step.ensures.ok in
     record {
       fits = grind arith;
-      so_far = sym (rw (one, ← next) at more) ∙ c.loop-item.invariant.so_far;
-      low = omega (arith, ints, c.loop-item.invariant.low, c.in_ok-take.ensures.least);
-      high = omega (arith, ints, c.loop-item.invariant.high, c.in_ok-take.ensures.most);
+      so_far = sym (rw (asked.1, ← asked.2) at more) ∙ c.loop-item.invariant.so_far;
+      low = omega (arith, ints, c.loop-item.invariant.low, c.in_ok-take_step.ensures.least);
+      high = omega (arith, ints, c.loop-item.invariant.high, c.in_ok-take_step.ensures.most);
     }

@@ -1,5 +1,5 @@
 //! Packet 12, the movement authority: its sections, end timer, danger point and overlap (this project's profile).
-ghost use Rattle.std.specs.Prelude.{◌≡◌, ◌+◌, ◌<◌, ◌≤◌, ◌^◌, length, OnOk, ◌↔◌, IsTrue};
+ghost use Rattle.std.specs.Prelude.{◌≡◌, ◌+◌, ◌<◌, ◌≤◌, ◌^◌, [], length, OnOk, ◌↔◌, IsTrue};
 ghost use Rattle.bits.specs.Fitting.{Fits};
 ghost use Rattle.bits.specs.Layout.{Gives, kind, read};
 ghost use Rattle.bits.specs.Writing.{size, taken};
@@ -110,6 +110,24 @@ pub struct MovementAuthority {
     pub overlap: Option<Overlap>,
 }
 
+/// An authority to be filled: one without values is cleared at once, where it is to stay.
+fn blank() -> MovementAuthority
+    ensures { result.sections.items ≡ [] }
+{
+    MovementAuthority {
+        direction: ValidityDirection::Reverse,
+        scale: Scale::TenCentimetres,
+        speed: SpeedStep::of_number(0).unwrap(),
+        end_speed: SpeedStep::of_number(0).unwrap(),
+        end_time: Timer::of_number(0).unwrap(),
+        sections: ArrayVec::new(),
+        end_section: Section::default(),
+        end_timer: None,
+        danger_point: None,
+        overlap: None,
+    }
+}
+
 /// Reads packet 12 after its number, into the place of another packet; answers its L_PACKET, in bits. The error is the
 /// first fault in the order of the bits.
 #[tactic(auto, unfolding(crate::specs::Layouts::movement_authority_description))]
@@ -124,21 +142,21 @@ pub fn read_movement_authority<'a>(
     let end_speed = ok!(field(reader));
     let end_time = ok!(field(reader));
     let count: Iterations = ok!(field(reader));
-    let mut sections: ArrayVec<Section, 31> = ArrayVec::new();
-    ok!(read_list(reader, &mut sections, count.count()));
+    *out = Packet::MovementAuthority(blank());
+    let Packet::MovementAuthority(authority) = out else {
+        return Err(PacketFault::OutOfRange);
+    };
+    authority.direction = direction;
+    authority.scale = scale;
+    authority.speed = speed;
+    authority.end_speed = end_speed;
+    authority.end_time = end_time;
+    ok!(read_list(reader, &mut authority.sections, count.count()));
     let end = ok!(read_end(reader));
-    *out = Packet::MovementAuthority(MovementAuthority {
-        direction,
-        scale,
-        speed,
-        end_speed,
-        end_time,
-        sections,
-        end_section: end.end_section,
-        end_timer: end.end_timer,
-        danger_point: end.danger_point,
-        overlap: end.overlap,
-    });
+    authority.end_section = end.end_section;
+    authority.end_timer = end.end_timer;
+    authority.danger_point = end.danger_point;
+    authority.overlap = end.overlap;
     Ok(reported)
 }
 

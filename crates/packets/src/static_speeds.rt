@@ -87,14 +87,10 @@ pub struct StaticStep {
 
 /// Fills unused elements.
 impl Default for StaticStep {
-    ghost use Rattle.packets.specs.Layouts.{no_step};
-
-    ghost is_default = { λ s. s ≡ no_step };
-
     fn default() -> StaticStep {
         StaticStep {
             distance: Distance::of_number(0).unwrap(),
-            speed: StaticSpeed::End,
+            speed: StaticSpeed::Speed(SpeedStep::of_number(0).unwrap()),
             delay: TrainLengthDelay::Applied,
             differences: Iterations::of_number(0).unwrap(),
         }

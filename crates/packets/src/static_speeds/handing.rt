@@ -1,11 +1,13 @@
 //! A static speed profile is handed to a sink, step by step.
 ghost use Rattle.std.specs.Prelude.{◌≡◌, ◌+◌, ◌≤◌, length, drop, slice_index_or, take, OnOk};
+ghost use Rattle.packets.specs.Layouts.{no_step};
 ghost use Rattle.packets.specs.StaticSteps.{profile_size, profile_taken, step_size, step_taken, steps_size, steps_taken};
 
 use crate::sink::{FieldSink, put};
 use crate::static_speeds::{Difference, StaticStep};
 use crate::walk::list;
 use bits::VariableName;
+use vars::{Distance, Iterations, StaticSpeed, TrainLengthDelay, Variable};
 
 /// The first step, or another one where there is none.
 fn first_step<'a>(steps: &'a [StaticStep], other: &'a StaticStep) -> &'a StaticStep
@@ -14,6 +16,18 @@ fn first_step<'a>(steps: &'a [StaticStep], other: &'a StaticStep) -> &'a StaticS
     match steps.first() {
         Some(step) => step,
         None => other,
+    }
+}
+
+/// A step to hand where there is none.
+fn no_step() -> StaticStep
+    ensures { result ≡ no_step }
+{
+    StaticStep {
+        distance: Distance::of_number(0).unwrap(),
+        speed: StaticSpeed::End,
+        delay: TrainLengthDelay::Applied,
+        differences: Iterations::of_number(0).unwrap(),
     }
 }
 
@@ -77,7 +91,7 @@ pub(crate) fn profile_fields<S: FieldSink>(
     requires space { S.held sink.old + profile_size steps.now differences.now ≤ S.most }
     ensures { OnOk result (S.seen sink.new ≡ profile_taken S.took steps.now differences.now (S.seen sink.old)) }
 {
-    let none = StaticStep::default();
+    let none = no_step();
     let first = first_step(steps, &none);
     let (own, left) = split_own(first, differences);
     ok!(step_fields(first, own, sink));

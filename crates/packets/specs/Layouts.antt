@@ -119,6 +119,10 @@ gradients = description gradients_description
 
 -- ---- packet 27
 
+-- what fills unused places of a profile
+abbrev pub unused_step : StaticStep
+unused_step = record { distance = 0; speed = static_speeds_of.Speed 0; delay = delays.Applied; differences = 0 }
+
 -- a step to read off where there is none
 abbrev pub no_step : StaticStep
 no_step = record { distance = 0; speed = static_speeds_of.End; delay = delays.Applied; differences = 0 }

@@ -87,6 +87,10 @@ pub struct StaticStep {
 
 /// Fills unused elements.
 impl Default for StaticStep {
+    ghost use Rattle.packets.specs.Layouts.{unused_step};
+
+    ghost is_default = { λ s. s ≡ unused_step };
+
     fn default() -> StaticStep {
         StaticStep {
             distance: Distance::of_number(0).unwrap(),

@@ -43,7 +43,6 @@ pub fn permitted_before<P: Profile<Permille>>(
 // at that one takes off, and what was summed on the way. The speed from which so much is taken off fits, and a greater
 // one fits only where its brakes act before that. So it goes back from there, one gradient after another, up to the one
 // on which the brakes act at the greatest. The caller owes a place that is near the front.
-#[inline(always)]
 fn sought<P: Profile<Permille>>(
     front: Cm,
     limit: Mph,

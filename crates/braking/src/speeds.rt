@@ -59,7 +59,6 @@ pub fn fits_summed<P: Profile<Permille>>(
 /// What the brakes take off before a target from where they act at a speed above its own, as far as is needed to see
 /// whether the speed fits; None where they don't act before it. What is summed already isn't gone through again, where
 /// it lies within. The caller owes what was summed of the same train and gradient.
-#[inline(always)]
 pub fn summed_before<P: Profile<Permille>>(
     front: Cm,
     speed: Mph,

@@ -41,7 +41,6 @@ impl Summed {
 
     /// The same, gone on with up to a place, in centimetres, or only until it takes off enough, in (m/h)^2. It is gone
     /// through from one change of the gradient to the next. The caller owes a place at or beyond its end.
-    #[inline(always)]
     pub fn gone_on<P: Profile<Permille>>(
         self,
         gradient: &P,
@@ -77,7 +76,6 @@ impl Summed {
 
     /// The same, begun before: from an earlier place on, in centimetres. The caller owes a place at or before its
     /// beginning.
-    #[inline(never)]
     pub fn initial<P: Profile<Permille>>(
         self,
         gradient: &P,

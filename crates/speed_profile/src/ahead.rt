@@ -114,7 +114,6 @@ impl<'a, S: Profile<CategorySpeeds>, G: Profile<Permille>> Ahead<'a, S, G> {
     }
 
     // The approach to all of them.
-    #[inline(always)]
     fn approach(&self, limit: Mph, last: Option<Target>) -> Approach<'a, G>
         ensures { result ≡ lowered_by (G.value self.now.gradient.now)
             (targets_ahead self.now.front self.now.bounds.now (speeds_along S.value self.now.track.now) ++ listed last)

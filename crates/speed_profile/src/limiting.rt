@@ -1,5 +1,5 @@
 //! The static speeds that limit a train, as a profile.
-ghost use Rattle.std.specs.Prelude.{◌≡◌, ◌≤ℤ◌, ◌<ℤ◌, ℕ, ℤ, true, false, Option};
+ghost use Rattle.std.specs.Prelude.{◌≡◌, ℤ, Option};
 ghost use Rattle.track_store.specs.Profiles.{Lasts};
 ghost use Rattle.speed_profile.specs.Limit.{counts_at, limiting_value};
 
@@ -31,27 +31,27 @@ impl<'a, S: Profile<CategorySpeeds>> Profile<Mph> for Limiting<'a, S> {
     }
 
     fn next(&self, place: Cm) -> Option<Cm> {
-        self.next_by(place, &self.speeds.at(place), self.speeds.next(place))
+        self.next_by(place, self.speeds.next(place))
     }
 
     fn piece(&self, place: Cm, near: usize) -> Piece<Mph> {
         let here = self.speeds.piece(place, near);
         Piece {
             value: limiting_value(self.category, self.min_front, place, here.value),
-            next: self.next_by(place, &here.value, here.next),
+            next: self.next_by(place, here.next),
             near: here.near,
         }
     }
 }
 
 impl<'a, S: Profile<CategorySpeeds>> Limiting<'a, S> {
-    // Up to where a value lasts, where the static speed of a centimetre does up to another place: one without train
-    // length delay begins to count at the minimum safe front.
-    fn next_by(&self, place: Cm, value: &Option<CategorySpeeds>, next: Option<Cm>) -> Option<Cm>
-        ensures { value.now ≡ S.value self.now.speeds.now place → Lasts (S.value self.now.speeds.now) place next
+    // Up to where a value lasts, where the static speed does up to another place: static speeds begin to count at the
+    // minimum safe front.
+    fn next_by(&self, place: Cm, next: Option<Cm>) -> Option<Cm>
+        ensures { Lasts (S.value self.now.speeds.now) place next
             → Lasts (λ there. limiting_value self.now.category self.now.min_front there (S.value self.now.speeds.now there)) place result }
     {
-        if counts_alike_from(self.min_front, place, value) {
+        if self.min_front <= place {
             return next;
         }
         match next {
@@ -75,18 +75,6 @@ fn limiting_value(
             Some(speeds.for_category(category))
         }
         _ => None,
-    }
-}
-
-// Whether a static speed counts on all centimetres from one on, or on none.
-fn counts_alike_from(min_front: Cm, place: Cm, value: &Option<CategorySpeeds>) -> bool
-    ensures alike { result ≡ true → (category : ℕ) (there : ℤ) → place ≤ℤ there
-        → limiting_value category min_front there value.now ≡ limiting_value category min_front place value.now }
-    ensures before { result ≡ false → place <ℤ min_front }
-{
-    match value {
-        Some(speeds) if place < min_front => matches!(speeds.delay, TrainLengthDelay::Applied),
-        _ => true,
     }
 }
 

@@ -26,7 +26,6 @@ const USUAL_STEPS: usize = 40;
 
 /// Lowers the speed of an approach for all targets ahead: the static speeds, which come the nearest first, and the
 /// others, in whatever order these come. They are gone to in the order of their places.
-#[inline(always)]
 pub fn lower_by_all<'a, S: Profile<CategorySpeeds>, G: Profile<Permille>>(
     approach: &mut Approach<'a, G>,
     speeds: &mut SpeedTargets<'a, S>,
@@ -54,7 +53,6 @@ fn look_for_stop<'a, S: Profile<CategorySpeeds>, G: Profile<Permille>>(
 }
 
 // Lowers the speed for all others, and for the static speeds before them.
-#[inline(always)]
 fn lower_by_others<'a, S: Profile<CategorySpeeds>, G: Profile<Permille>>(
     approach: &mut Approach<'a, G>,
     speeds: &mut SpeedTargets<'a, S>,
@@ -127,7 +125,6 @@ fn next_to_brake_for<'a, G: Profile<Permille>>(
 
 // Lowers the speed for three targets, for those that are left, and for the static speeds before them. A place for each
 // step up to the speed so far does, since no faster target asks for anything.
-#[inline(never)]
 fn lower_by_nearest<'a, S: Profile<CategorySpeeds>, G: Profile<Permille>>(
     approach: &mut Approach<'a, G>,
     speeds: &mut SpeedTargets<'a, S>,

@@ -61,7 +61,6 @@ fn lower_by_next<'a, S: Profile<CategorySpeeds>, G: Profile<Permille>>(
 }
 
 /// Lowers the speed of an approach for the nearest piece of the static speeds that are left.
-#[inline(always)]
 pub fn lower_by_piece<'a, S: Profile<CategorySpeeds>, G: Profile<Permille>>(
     approach: &mut Approach<'a, G>,
     speeds: &mut SpeedTargets<'a, S>,

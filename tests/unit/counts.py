@@ -33,7 +33,7 @@ MOST_TWICE = 140_000
 MOST_DOUBLED = 2.05
 # Bytes of stack: of some calls, and of any other one.
 POWER_UPS = ("etcs_unit_begin_", "etcs_unit_provide_")
-MOST_STACK_OF = dict.fromkeys(POWER_UPS, 16_384) | {"etcs_image_why_": 176_128, "etcs_image_replay_": 67_584, "etcs_telegram_unused_": 36_864,
+MOST_STACK_OF = dict.fromkeys(POWER_UPS, 16_384) | {"etcs_image_why_": 176_128, "etcs_image_replay_": 70_656, "etcs_telegram_unused_": 36_864,
                                                  **dict.fromkeys(("etcs_unit_preview_telegram_", "etcs_unit_preview_odometer_"), 106_496),
                                                  **dict.fromkeys(("etcs_image_block_", "etcs_image_record_", "etcs_image_slot_", "etcs_journal_next_"), 24_576)}
 MOST_STACK, LEAST_CALLS = 11_776, 30

@@ -7,5 +7,5 @@ unfolding line_of
 returns g c =
     let front = c.append_front.ensures.text ∙ ap (λ line. line ++ front_of c.args.number c.args.output.now) c.new-line.ensures in
     let text : c.as_slice.result.now ≡ line_of c.args.number c.args.output.now =
-        c.as_slice.ensures.value ∙ c.append_back.ensures ∙ ap (λ line. line ++ back_of c.args.output.now) front in
+    c.as_slice.ensures.value ∙ c.append_back.ensures ∙ ap (λ line. line ++ back_of c.args.output.now) front in
     rw text at c.write_all.ensures.bytes

@@ -47,5 +47,5 @@ rows test_onboard 34585
 rows test_kernel 711
 rows test_track 86
 rows test_guard 181
-rows test_json 12
+rows test_json 13
 exit $status

@@ -11,7 +11,7 @@ use sessions::of_stop;
 use sha2::{Digest, Sha256};
 use std::io;
 use std::io::Write;
-use text_output::{Form, Piece, brake_name, known, mode_name, write_pieces};
+use text_output::{Form, Piece, are_same, brake_name, known, mode_name, write_pieces};
 
 /// Which outputs are printed.
 #[derive(Clone, Copy)]
@@ -116,14 +116,6 @@ fn level_number(level: Option<TrainLevel>) -> &'static str {
     }
 }
 
-fn is_same(one: &Output, other: &Output) -> bool {
-    mode_name(one.mode) == mode_name(other.mode)
-        && level_number(one.level) == level_number(other.level)
-        && brake_name(one.brake) == brake_name(other.brake)
-        && one.limit.get() == other.limit.get()
-        && one.indications.number() == other.indications.number()
-}
-
 // The names of the indications that are displayed, as a list.
 fn write_indications<W: Write>(indications: Indications, out: &mut W) -> io::Result<()> {
     out.write_all(b"[")?;
@@ -174,7 +166,7 @@ fn write_changes<W: Write>(released: &[Released], out: &mut W) -> io::Result<()>
     for one in released {
         let output = one.output();
         let is_new = match &before {
-            Some(before) => !is_same(before, &output),
+            Some(before) => !are_same(before, &output),
             None => true,
         };
         if is_new {

@@ -12,7 +12,7 @@ use mode_table::Cold;
 use std::alloc::Global;
 use std::io;
 use std::io::Write;
-use text_output::Status;
+use text_output::{OutputLines, Status};
 use whole_lives::{Step, live_into};
 
 /// One life on a disk: a line for each output, written as it is released, and a last one where the life stopped. After
@@ -34,11 +34,16 @@ pub fn run_life<D: Disk, W: Write>(
         (W.contents result.1) result.2 }
 {
     let mut printer = Printer {
+        lines: OutputLines::new(),
         out,
         reported: Ok(()),
     };
     let (disk, ended) = live_into(alloc, disk, cold, steps, &mut printer);
-    let Printer { mut out, reported } = printer;
+    let Printer {
+        lines: _,
+        mut out,
+        reported,
+    } = printer;
     match reported {
         Ok(()) => {
             let status = describe_end(ended, &mut out);

@@ -6,23 +6,23 @@ ghost use Rattle.sessions.specs.Lines.{lines_of};
 use onboard::Released;
 use std::io;
 use std::io::Write;
-use text_output::write_line;
+use text_output::OutputLines;
 use units::NoMemory;
 use whole_lives::ReleaseSink;
 
-fn write_lines<W: Write>(pairs: &[Released], out: &mut W) -> io::Result<()>
+fn write_lines<W: Write>(lines: &mut OutputLines, pairs: &[Released], out: &mut W) -> io::Result<()>
     ensures { OnOk result (Appends (W.contents out.old) (W.contents out.new) (lines_of pairs.now)) }
 {
     for pair in pairs {
-        write_line(pair.event(), &pair.output(), out)?;
+        lines.write(pair.event(), &pair.output(), out)?;
     }
     Ok(())
 }
 
-fn print<W: Write>(pairs: &[Released], out: &mut W) -> io::Result<()>
+fn print<W: Write>(lines: &mut OutputLines, pairs: &[Released], out: &mut W) -> io::Result<()>
     ensures { OnOk result (Appends (W.contents out.old) (W.contents out.new) (lines_of pairs.now)) }
 {
-    write_lines(pairs, out)?;
+    write_lines(lines, pairs, out)?;
     out.flush()
 }
 
@@ -30,7 +30,9 @@ fn print<W: Write>(pairs: &[Released], out: &mut W) -> io::Result<()>
 /// nothing more, and has space for no more: so a life stops before its next flush, and nothing is released that can't
 /// be written.
 pub(crate) struct Printer<W> {
-    /// What the lines are written to.
+    /// What writes the lines.
+    pub lines: OutputLines,
+    /// What they are written to.
     pub out: W,
     /// What became of the writes so far.
     pub reported: io::Result<()>,
@@ -59,7 +61,7 @@ impl<W: Write> ReleaseSink for Printer<W> {
 
     fn give(&mut self, pairs: &[Released]) {
         if self.reported.is_ok() {
-            self.reported = print(pairs, &mut self.out);
+            self.reported = print(&mut self.lines, pairs, &mut self.out);
         }
     }
 }

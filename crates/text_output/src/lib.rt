@@ -2,6 +2,7 @@
 //! people or as JSON (this project's profile), and the exit status that goes with it.
 #![tactic(auto)]
 
+mod alike;
 mod description;
 mod line;
 mod output_line;
@@ -10,9 +11,10 @@ mod piece;
 mod status;
 mod writing;
 
+pub use alike::are_same;
 pub use description::describe;
 pub use line::append;
-pub use output_line::write_line;
+pub use output_line::OutputLines;
 pub use output_names::{brake_name, level_name, mode_name};
 pub use piece::{Form, Piece, known, shared_text};
 pub use status::Status;

@@ -11,6 +11,7 @@ use crate::step_kinds::StepKind;
 use crate::track::Track;
 use events::{Input, MOST_PENDING, Reading, Step};
 use std::alloc::Global;
+use step_list::StepList;
 use units::{Movement, Mph, NoMemory};
 
 /// How far a reading moves at most, in centimetres.
@@ -46,7 +47,7 @@ pub struct Course {
     /// How many events are pending.
     pub pending: usize,
     /// The steps so far.
-    pub steps: Vec<Step>,
+    pub steps: StepList,
     ghost few: { pending ≤ most_pending },
 }
 
@@ -60,7 +61,7 @@ impl Course {
         Course {
             front: 0,
             pending: 0,
-            steps: Vec::new(alloc),
+            steps: StepList::new(alloc),
         }
     }
 
@@ -87,8 +88,8 @@ impl Course {
     }
 
     /// The steps, the last one a flush where something is pending. NoMemory where memory for it was refused.
-    pub fn end(mut self) -> Result<Vec<Step>, NoMemory>
-        ensures ok { IfOk result (λ steps. steps.items ≡ (ended (run_of self)).steps) }
+    pub fn end(mut self) -> Result<StepList, NoMemory>
+        ensures ok { IfOk result (λ steps. steps ≡ (ended (run_of self)).steps) }
     {
         if self.pending != 0 {
             self.flush()?;

@@ -15,7 +15,7 @@ use std::alloc::Global;
 
 // How many steps the life has so far.
 fn note(course: &Course, ends: &mut Vec<usize>) -> Result<(), ScenarioFault>
-    ensures ok { OnOk result (ends.new.items ≡ ends.old.items ++ length course.now.steps.items ∷ []) }
+    ensures ok { OnOk result (ends.new.items ≡ ends.old.items ++ length course.now.steps ∷ []) }
     ensures err { IfErr result (λ fault. fault ≡ ScenarioFault.NoMemory) }
 {
     ends.push(course.steps.len())?;

@@ -14,11 +14,11 @@ use crate::driving::Course;
 use crate::groups::lay_all;
 use crate::track::Track;
 use crate::values::byte_of;
-use events::Step;
 use json_values::{JsonList, JsonValue};
 use mode_table::Cold;
 use serde_json::Value;
 use std::alloc::Global;
+use step_list::StepList;
 
 #[tactic(auto, unfolding(crate::specs::Lives::has_keys))]
 fn has_keys(value: &JsonValue) -> bool
@@ -110,9 +110,9 @@ fn live(
 }
 
 #[tactic(auto, unfolding(crate::specs::Lives::steps_in))]
-fn steps_of(alloc: Global, track: &Track, items: &JsonList) -> Result<Vec<Step>, ScenarioFault>
+fn steps_of(alloc: Global, track: &Track, items: &JsonList) -> Result<StepList, ScenarioFault>
     ensures ok { IfOk result (λ steps. steps_in (passed track.now.balises.items) (listed items.now)
-        ≡ Ok steps.items) }
+        ≡ Ok steps) }
     ensures err { IfErr result (λ fault. (fault ≡ ScenarioFault.NoMemory)
         ⊎ (steps_in (passed track.now.balises.items) (listed items.now) ≡ Err fault)) }
 {
@@ -123,8 +123,8 @@ fn steps_of(alloc: Global, track: &Track, items: &JsonList) -> Result<Vec<Step>,
 
 /// What `life_of` answers, of a value on a tape or in a tree.
 #[tactic(auto, unfolding(crate::specs::Lives::life_in))]
-pub(crate) fn life_in(alloc: Global, value: &JsonValue) -> Result<(Cold, Vec<Step>), ScenarioFault>
-    ensures ok { IfOk result (λ life. life_in (reported value.now) ≡ Ok (life.0, life.1.items)) }
+pub(crate) fn life_in(alloc: Global, value: &JsonValue) -> Result<(Cold, StepList), ScenarioFault>
+    ensures ok { IfOk result (λ life. life_in (reported value.now) ≡ Ok (life.0, life.1)) }
     ensures err { IfErr result (λ fault. (fault ≡ ScenarioFault.NoMemory) ⊎ (life_in (reported value.now) ≡ Err fault)) }
 {
     if !has_keys(value) {
@@ -141,8 +141,8 @@ pub(crate) fn life_in(alloc: Global, value: &JsonValue) -> Result<(Cold, Vec<Ste
 /// What the train knows of movements without power, and the steps of the life that a value asks for; or the value's
 /// first fault. The faults come in this order: the keys of the object; the value of `cold`; the groups; the steps; in
 /// each item its shape, and then its numbers and texts. NoMemory may come in the place of any of them.
-pub fn life_of(alloc: Global, value: &Value) -> Result<(Cold, Vec<Step>), ScenarioFault>
-    ensures ok { IfOk result (λ life. life_in (view value.now) ≡ Ok (life.0, life.1.items)) }
+pub fn life_of(alloc: Global, value: &Value) -> Result<(Cold, StepList), ScenarioFault>
+    ensures ok { IfOk result (λ life. life_in (view value.now) ≡ Ok (life.0, life.1)) }
     ensures err { IfErr result (λ fault. (fault ≡ ScenarioFault.NoMemory) ⊎ (life_in (view value.now) ≡ Err fault)) }
 {
     life_in(alloc, &JsonValue::Tree(value))

@@ -1,4 +1,5 @@
 pub mod GateRead
+pub mod GivenBack
 pub mod Going
 pub mod Holding
 pub mod Numbering

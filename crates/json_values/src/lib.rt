@@ -18,6 +18,7 @@ mod text;
 mod value;
 
 pub use json::Scratch;
+pub use numbers::{digits, whole};
 pub use outline::{Outline, Place, Spot};
 pub use placed::Placed;
 pub use placed_items::PlacedItems;

@@ -47,9 +47,9 @@ fn scanned(text: &str) -> Option<i64>
     }
 }
 
-// The number that 1 to 18 digits write, as most numbers do; None for any other text.
+/// The number that 1 to 18 digits write, as most numbers do; None for any other text.
 #[inline(always)]
-fn short(text: &str) -> Option<u64>
+pub fn digits(text: &str) -> Option<u64>
     ensures { IfSome result (λ n. (number_of text.now ≡ Some (unsigned n)) × (n < 2 ^ 63)) }
 {
     let bytes = text.as_bytes();
@@ -68,11 +68,12 @@ fn short(text: &str) -> Option<u64>
 }
 
 /// The whole number of 64 bits that the text of a number writes; None where it is another number, as `1.0` and `-0` are.
-pub(crate) fn whole(text: &str) -> Option<i64>
+#[inline(always)]
+pub fn whole(text: &str) -> Option<i64>
     ensures value { (n : Num) → number_of text.now ≡ Some n → result ≡ as_i64 n }
     ensures some { OnSome result (is_some (number_of text.now) ≡ true) }
 {
-    match short(text) {
+    match digits(text) {
         Some(number) => Some(number as i64),
         None => scanned(text),
     }
@@ -83,5 +84,5 @@ pub(crate) fn whole(text: &str) -> Option<i64>
 pub(crate) fn is_whole(text: &str) -> bool
     ensures { IsTrue result → is_some (number_of text.now) ≡ true }
 {
-    short(text).is_some() || scanned(text).is_some()
+    digits(text).is_some() || scanned(text).is_some()
 }

@@ -1,15 +1,18 @@
 -- What an object of one member asks for, by its name.
-use Rattle.std.proofs.Common.{◌≡◌, ℕ, List, codes, true, false, Result, Ok, Err, sym, ap, ◌∙◌, subst}
+use Rattle.std.proofs.Common.{◌≡◌, ◌&&◌, ℕ, ℤ, pos, int_le, List, [], ◌∷◌, codes, true, false, Option, Some, Result, Ok, Err, refl, sym, ap, ◌∙◌, subst}
 use Rattle.std.specs.Str.{bytes_eq}
 use Rattle.std.proofs.lemmas.Slice.Eq.{bytes_eq-Decides}
 use Rattle.serde_json.specs.Data.{Data}
 use Rattle.serde_json.specs.Find.{get}
-use Rattle.json_values.specs.Shapes.{object_of_one}
+use Rattle.json_values.specs.Shapes.{object_of_one, list_in}
 use Rattle.json_values.proofs.Single.{at_name}
+use Rattle.simulator.specs.Limits.{farthest_back, farthest}
 use Rattle.simulator.specs.Steps.{drive, telegram, clock, driver, flush, or_else, by_key}
+use Rattle.simulator.specs.Values.{◌>>=◌, shaped, given, whole, whole_item, within}
 use Rattle.simulator.specs.declared.step_kinds.StepKind.{StepKind}
+use Rattle.simulator.specs.declared.step_kinds.StepKind.TheVariants.{Drive}
 use Rattle.simulator.specs.declared.fault.ScenarioFault.{ScenarioFault}
-use Rattle.simulator.specs.declared.fault.ScenarioFault.TheVariants.{Shape}
+use Rattle.simulator.specs.declared.fault.ScenarioFault.TheVariants.{Shape, OutOfRange}
 
 abbrev IsNot : List ℕ → List ℕ → Type 0
 IsNot name key = bytes_eq name key ≡ false
@@ -31,3 +34,17 @@ by_name P name key is there = subst P (sym ((bytes_eq-Decides name key).0 is)) t
 -- an object of this member asks for the step
 abbrev pub Asks : Data → StepKind → List ℕ → Type 0
 Asks v step name = by_key (object_of_one name v) ≡ Ok step
+
+-- ---- what a list of two asks for as a drive
+
+abbrev pub asked : Option ℤ → Option ℤ → Result StepKind ScenarioFault
+asked first second = do
+  cm ← shaped first
+  mph ← shaped second
+  _ ← given (int_le farthest_back cm && int_le cm (pos farthest)) OutOfRange
+  speed ← within 0 600_000 mph
+  Ok (Drive cm speed)
+
+pub of_pair : (v a b : Data) → list_in v ≡ Some (a ∷ b ∷ []) → drive v ≡ asked (whole a) (whole b)
+unfolding drive whole_item
+of_pair v a b is = rw is refl

@@ -1,7 +1,9 @@
+pub mod Forms
 pub mod Identity
 pub mod Keys
 pub mod Passing
 pub mod Readings
 pub mod Sifting
+pub mod Spelled
 pub mod TextAnswers
 pub mod ValueFaults

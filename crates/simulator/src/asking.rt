@@ -57,8 +57,9 @@ fn clock_of(value: &JsonValue) -> Result<Ms, ScenarioFault>
     Ms::new(ms).ok_or(ScenarioFault::OutOfRange)
 }
 
+/// The action that a list asks for.
 #[tactic(auto, unfolding(crate::specs::Steps::driver))]
-fn driver_of(value: JsonValue) -> Result<Action, ScenarioFault>
+pub(crate) fn driver_of(value: JsonValue) -> Result<Action, ScenarioFault>
     ensures ok { IfOk result (λ action. driver (reported value.entry) ≡ Ok (Happens (Driver action))) }
     ensures err { IfErr result (λ fault. driver (reported value.entry) ≡ Err fault) }
 {

@@ -13,6 +13,7 @@ mod fault;
 mod groups;
 mod laws;
 mod lives;
+mod one_pass;
 mod parts;
 mod reading;
 mod step_kinds;

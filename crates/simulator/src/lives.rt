@@ -28,7 +28,8 @@ fn has_keys(value: &JsonValue) -> bool
     value.has_members(count) && value.get("groups").is_some() && value.get("steps").is_some()
 }
 
-fn cold_value(number: i64) -> Result<Cold, ScenarioFault>
+/// What a number says as the value of `cold`.
+pub(crate) fn cold_value(number: i64) -> Result<Cold, ScenarioFault>
     ensures { result ≡ cold_value number }
 {
     Cold::of_number(byte_of(number)?).ok_or(ScenarioFault::OutOfRange)

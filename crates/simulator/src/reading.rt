@@ -4,6 +4,7 @@ ghost use Rattle.simulator.specs.Scenarios.{Describes, FaultOf, DescribesEnds, E
 
 use crate::fault::ScenarioFault;
 use crate::lives::life_in;
+use crate::one_pass::life_by_tokens;
 use events::Step;
 use json_values::{JsonText, Scratch};
 use mode_table::Cold;
@@ -24,6 +25,9 @@ pub fn plan_of(alloc: Global, scenario: &Scenario) -> Result<(Cold, StepList), S
     ensures ok { IfOk result (λ life. Describes scenario.now.bytes.items life.0 life.1) }
     ensures err { IfErr result (λ fault. (fault ≡ ScenarioFault.NoMemory) ⊎ FaultOf scenario.now.bytes.items fault) }
 {
+    if let Some(life) = life_by_tokens(alloc, scenario.bytes.as_slice()) {
+        return Ok(life);
+    }
     let mut scratch = Scratch::new(alloc);
     let text = match JsonText::read(alloc, scenario.bytes.as_slice(), &mut scratch) {
         Ok(text) => text,

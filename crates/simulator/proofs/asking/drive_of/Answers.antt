@@ -1,33 +1,17 @@
-use Rattle.std.proofs.Common.{◌≡◌, ◌==◌, ◌&&◌, pos, int_le, ℤ, length, List, [], ◌∷◌, false, Option, Some, None, Result, Ok, Err, refl, arith, rules}
+use Rattle.std.proofs.Common.{◌≡◌, ◌==◌, length, List, false, Option, Some, None, Err, refl, arith, rules}
 use Rattle.std.proofs.lemmas.Grind.{common_steps}
 use Rattle.serde_json.specs.Data.{Data}
 use Rattle.json_values.specs.Looking.{reported, list_or_nothing}
 use Rattle.json_values.specs.Shapes.{list_in}
-use Rattle.simulator.specs.Limits.{farthest_back, farthest}
 use Rattle.simulator.specs.Steps.{drive}
-use Rattle.simulator.specs.Values.{◌>>=◌, shaped, given, whole, whole_item, within}
-use Rattle.simulator.specs.declared.step_kinds.StepKind.{StepKind}
-use Rattle.simulator.specs.declared.step_kinds.StepKind.TheVariants.{Drive}
-use Rattle.simulator.specs.declared.fault.ScenarioFault.{ScenarioFault}
-use Rattle.simulator.specs.declared.fault.ScenarioFault.TheVariants.{Shape, OutOfRange}
+use Rattle.simulator.specs.declared.fault.ScenarioFault.TheVariants.{Shape}
+use Rattle.simulator.proofs.Keys.{of_pair}
 use Rattle.simulator.proofs.asking.drive_of.Goals as goal
 
 no_pair : (v : Data) (o : Option (List Data)) → list_in v ≡ o → (length (list_or_nothing o) == 2) ≡ false → drive v ≡ Err Shape
 unfolding drive
 no_pair v None is few = rw is refl
 no_pair v (Some ds) is few = rw (is, few) refl
-
-abbrev asked : Option ℤ → Option ℤ → Result StepKind ScenarioFault
-asked first second = do
-  cm ← shaped first
-  mph ← shaped second
-  _ ← given (int_le farthest_back cm && int_le cm (pos farthest)) OutOfRange
-  speed ← within 0 600_000 mph
-  Ok (Drive cm speed)
-
-of_pair : (v a b : Data) → list_in v ≡ Some (a ∷ b ∷ []) → drive v ≡ asked (whole a) (whole b)
-unfolding drive whole_item
-of_pair v a b is = rw is refl
 
 pub returns-in_default-clause-err : goal.returns-in_default-clause-err
 returns-in_default-clause-err c = no_pair (reported c.args.value.now) (list_in (reported c.args.value.now)) refl c.in_default.ensures

@@ -6,7 +6,7 @@ use Rattle.std.specs.Str.Parse.{AllDigits, digits_value, digits_value_after}
 use Rattle.serde_json.specs.Data.{unsigned}
 use Rattle.serde_json.specs.Read.{number_of}
 use Rattle.json_values.proofs.Written.{few_digits}
-use Rattle.json_values.proofs.numbers.short.Goals as goal
+use Rattle.json_values.proofs.numbers.digits.Goals as goal
 
 below : (n i : ℕ) → n < 10 ^ i → i < 18 → n < 10 ^ 17
 below n i few more =

@@ -1,0 +1,7 @@
+//! A scenario in its usual form, read in one pass over the tokens of its text.
+mod groups;
+mod life;
+mod steps;
+mod tokens;
+
+pub(crate) use life::life_by_tokens;

@@ -14,10 +14,10 @@ use crate::one_pass::groups::lay_groups;
 use crate::one_pass::steps::take_steps;
 use crate::one_pass::tokens::{any_key, begin_array, end_object, key, number};
 use crate::track::Track;
-use events::Step;
 use json::{Reader, Scratch, Token};
 use mode_table::Cold;
 use std::alloc::Global;
+use step_list::StepList;
 
 // The value of `cold`, of which the key was taken.
 fn cold(reader: &mut Reader<'_>) -> Option<Cold>
@@ -31,8 +31,8 @@ fn cold(reader: &mut Reader<'_>) -> Option<Cold>
 }
 
 // The groups, of which the key was taken, and the steps.
-fn body(alloc: Global, reader: &mut Reader<'_>) -> Option<Vec<Step>>
-    ensures { IfSome result (λ steps. IsBody (spec.key (codes "groups") ∷ reader.old) steps.items reader.new) }
+fn body(alloc: Global, reader: &mut Reader<'_>) -> Option<StepList>
+    ensures { IfSome result (λ steps. IsBody (spec.key (codes "groups") ∷ reader.old) steps reader.new) }
 {
     begin_array(reader)?;
     let mut balises = Vec::new(alloc);
@@ -66,9 +66,9 @@ fn end(reader: &mut Reader<'_>) -> Option<Cold>
 }
 
 // The life that an object asks for, of which the brace was taken.
-fn life(alloc: Global, reader: &mut Reader<'_>) -> Option<(Cold, Vec<Step>)>
+fn life(alloc: Global, reader: &mut Reader<'_>) -> Option<(Cold, StepList)>
     ensures { IfSome result (λ life. (d : Data) × SpellsValue 4 (spec.begin_object ∷ reader.old) d reader.new
-        × (life_in d ≡ Ok (life.0, life.1.items))) }
+        × (life_in d ≡ Ok (life.0, life.1))) }
 {
     let name = any_key(reader)?;
     if name == "groups" {
@@ -87,8 +87,8 @@ fn life(alloc: Global, reader: &mut Reader<'_>) -> Option<(Cold, Vec<Step>)>
 }
 
 /// The life that a text in this form asks for.
-pub(crate) fn life_by_tokens(alloc: Global, bytes: &[u8]) -> Option<(Cold, Vec<Step>)>
-    ensures { IfSome result (λ life. Describes bytes.now life.0 life.1.items) }
+pub(crate) fn life_by_tokens(alloc: Global, bytes: &[u8]) -> Option<(Cold, StepList)>
+    ensures { IfSome result (λ life. Describes bytes.now life.0 life.1) }
 {
     let Ok(text) = simdutf8::basic::from_utf8(bytes) else {
         return None;

@@ -24,18 +24,18 @@ use std::alloc::Global;
 fn report_one<S: LineSink<PlayLine>>(
     alloc: Global,
     reasoning: &mut Reasoning,
-    input: &Input,
+    input: Input,
     step: u64,
     released: &Released,
     sink: &mut S,
 ) -> Result<(), LateError>
     ensures stands { (story : Story) → Reasons story reasoning.old
-        → OnOk result (Reasons (onward story (an_input input.now)) reasoning.new) }
+        → OnOk result (Reasons (onward story (an_input input)) reasoning.new) }
     ensures line { (story : Story) → Reasons story reasoning.old
-        → OnOk result ((line : a_line) × IsLine step (onward story (an_input input.now)) released.now line
+        → OnOk result ((line : a_line) × IsLine step (onward story (an_input input)) released.now line
         × S.Takes sink.old line sink.new) }
 {
-    let Ok(_) = reasoning.follow(alloc, &Event::Input(input.copy())) else {
+    let Ok(_) = reasoning.follow(alloc, &Event::Input(input)) else {
         return Err(LateError::NoMemory);
     };
     let Ok(line) = output_line(alloc, reasoning, step, released) else {
@@ -52,18 +52,18 @@ pub(crate) fn report_released<S: LineSink<PlayLine>>(
     sink: &mut S,
 ) -> Result<(), LateError>
     ensures { (durable more : List Event)
-        → accepted_by (PowerUp life.now.cold ∷ []) life.now.steps.items ≡ more ++ durable
+        → accepted_by (PowerUp life.now.cold ∷ []) life.now.steps ≡ more ++ durable
         → pairs_of durable ≡ pairs_of (PowerUp life.now.cold ∷ []) ++ released.now
         → OnOk result ((lines : List a_line) × AreLines (input_steps life.now) durable lines
         × TakesAll S.Takes lines sink.old sink.new) }
 {
-    let steps = life.steps.as_slice();
+    let steps = &life.steps;
     let ends = life.ends.as_slice();
     let (mut reasoning, _) = Reasoning::begin(alloc, &Kept::nothing(), life.cold);
     let mut reported = 0;
     let mut step = 0;
     for place in 0..steps.len() {
-        let Step::Accept(input) = &steps[place] else {
+        let Step::Accept(input) = steps.get(place) else {
             continue;
         };
         if reported == released.len() {

@@ -3,7 +3,6 @@
 use crate::accepting::refusals;
 use crate::advice::{LocatedAdvice, advice_on};
 use crate::locating::{Faults, LocatedFault, faults_of};
-use events::Step;
 use json_values::{Outline, Place, Position, Repeat, RepeatsError, has_repeats};
 use mode_table::Cold;
 use serde_json::Value;
@@ -11,6 +10,7 @@ use simulator::{Scenario, ScenarioFault};
 use std::alloc::{AllocError, Global};
 use std::io;
 use std::io::Write;
+use step_list::StepList;
 use text_output::Form;
 
 /// Why nothing can be reported.
@@ -166,12 +166,12 @@ fn advice_in(
     alloc: Global,
     outline: &Outline,
     text: &[u8],
-    life: &(Cold, Vec<Step>),
+    life: &(Cold, StepList),
 ) -> Result<Vec<LocatedAdvice>, LintError> {
     let Ok(value) = Value::from_slice(alloc, text) else {
         return Err(LintError::NoMemory);
     };
-    let Ok(refusals) = refusals(alloc, life.0, life.1.as_slice()) else {
+    let Ok(refusals) = refusals(alloc, life.0, &life.1) else {
         return Err(LintError::NoMemory);
     };
     match advice_on(alloc, outline, &value, refusals.as_slice()) {

@@ -9,19 +9,23 @@ use events::Step;
 use journal::format;
 use ring::sectors_before;
 use std::alloc::Global;
+use step_list::StepList;
 use units::NoMemory;
 
 // How many flushes the steps have.
-fn flushes_in(steps: &[Step]) -> u64 {
-    steps
-        .iter()
-        .filter(|step| matches!(step, Step::Flush))
-        .count() as u64
+fn flushes_in(steps: &StepList) -> u64 {
+    let mut flushes: u64 = 0;
+    for k in 0..steps.len() {
+        if let Step::Flush = steps.get(k) {
+            flushes += 1;
+        }
+    }
+    flushes
 }
 
 /// At least as many calls of the device as a life of these steps makes on a journal of so many slots, and then one to
 /// read the image.
-pub(crate) fn calls_of(slots: u32, steps: &[Step]) -> u64 {
+pub(crate) fn calls_of(slots: u32, steps: &StepList) -> u64 {
     // An opening calls the device once for each slot and a few times more, and a flush six times, with seven sectors.
     let for_flushes = flushes_in(steps).saturating_add(16).saturating_mul(8);
     for_flushes.saturating_add(2 * u64::from(slots))

@@ -13,7 +13,7 @@ use crate::life::{Played, play_first, play_life};
 use blocks::{LEAST_SLOTS, MOST_SLOTS};
 use disk::Memory;
 use mode_table::Cold;
-use simulator::{Scenario, events_of};
+use simulator::{Scenario, plan_of};
 use std::alloc::Global;
 
 // Whether a journal has so many slots.
@@ -53,12 +53,12 @@ pub fn play(
     if !has_journal(slots) {
         return Err(PlayError::BadSlots);
     }
-    match events_of(alloc, scenario) {
+    match plan_of(alloc, scenario) {
         Ok((own_cold, steps)) => match play_first(
             alloc,
             slots,
             cold_by(given, own_cold),
-            steps.as_slice(),
+            &steps,
             later_calls,
         ) {
             Ok(played) => Ok(played),
@@ -82,13 +82,8 @@ pub fn play_after(
         outcome.released.items (memory_state disk) (memory_state outcome.disk)) }
     ensures err { IfErr result (IsCauseAfter scenario.now.bytes.items) }
 {
-    match events_of(alloc, scenario) {
-        Ok((own_cold, steps)) => match play_life(
-            alloc,
-            disk,
-            cold_by(given, own_cold),
-            steps.as_slice(),
-        ) {
+    match plan_of(alloc, scenario) {
+        Ok((own_cold, steps)) => match play_life(alloc, disk, cold_by(given, own_cold), &steps) {
             Ok(played) => Ok(played),
             Err(_) => Err(PlayError::NoMemory),
         },
@@ -101,8 +96,8 @@ pub fn play_after(
 pub fn calls_for(alloc: Global, scenario: &Scenario, slots: u32) -> Result<u64, PlayError>
     ensures { IfErr result (IsCauseAfter scenario.now.bytes.items) }
 {
-    match events_of(alloc, scenario) {
-        Ok((_, steps)) => Ok(calls_of(slots, steps.as_slice())),
+    match plan_of(alloc, scenario) {
+        Ok((_, steps)) => Ok(calls_of(slots, &steps)),
         Err(fault) => Err(error_of(fault)),
     }
 }

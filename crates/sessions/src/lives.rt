@@ -12,17 +12,18 @@ use mode_table::Cold;
 use std::alloc::Global;
 use std::io;
 use std::io::Write;
+use step_list::StepSource;
 use text_output::{OutputLines, Status};
-use whole_lives::{Step, live_into};
+use whole_lives::live_into;
 
 /// One life on a disk: a line for each output, written as it is released, and a last one where the life stopped. After
 /// a write that failed nothing more is released. It hands the disk and the writer back, and answers the status that the
 /// program ends with; the error is that of a write.
-pub fn run_life<D: Disk, W: Write>(
+pub fn run_life<D: Disk, P: StepSource, W: Write>(
     alloc: Global,
     disk: D,
     cold: Cold,
-    steps: &[Step],
+    steps: &P,
     out: W,
 ) -> (D, W, io::Result<Status>)
     // The status is that of a device exactly where the device failed.
@@ -30,7 +31,7 @@ pub fn run_life<D: Disk, W: Write>(
 
     ensures session { (whole_from : ℕ) (durable accepted : List Event) → IsTrue (D.state disk).honest →
         IsReady whole_from durable accepted (D.state disk) →
-        Session whole_from durable accepted cold steps.now (D.state disk) (D.state result.0) (W.contents out)
+        Session whole_from durable accepted cold (P.listed steps.now) (D.state disk) (D.state result.0) (W.contents out)
         (W.contents result.1) result.2 }
 {
     let mut printer = Printer {

@@ -67,16 +67,15 @@ with_space : (o : Option AcceptError) (P Q : Type 0) (R : AcceptError → Type 0
 with_space None P Q R so is = (so refl, is)
 with_space (Some e) P Q R so is = is
 
-pub accept_stops : (so : Progress) (known : Knowledge (Segmented ℤ) (Segmented CategorySpeeds)) (k : ℕ) (input copy : Input) (r : Result (Unit {0}) AcceptError) (error : AcceptError) → r ≡ Err error → copy ≡ input
-    → MatchOption (refusal_of so.failed so.pending so.moment copy) (IfErr r (λ e. e ≡ NoMemory)) (λ e. r ≡ Err e)
-    → (refusal_of so.failed so.pending so.moment copy ≡ None → HasSpace known copy → IsOk r) → StopsAt so k (Accept input) (a_live.Accept k error)
-accept_stops so known k input copy r error is same exact quiet =
-    let S : Input → Type 0 = λ x. StopsAt so k (Accept x) (a_live.Accept k error) in
-    let o = refusal_of so.failed so.pending so.moment copy in
-    subst S same (with_space o (IsTrue (may_add copy)) (a_live.Accept k error ≡ a_live.Accept k NoMemory) (λ e. a_live.Accept k error ≡ a_live.Accept k e)
-    (λ none. wanted known copy r error is (quiet none))
+pub accept_stops : (so : Progress) (known : Knowledge (Segmented ℤ) (Segmented CategorySpeeds)) (k : ℕ) (input : Input) (r : Result (Unit {0}) AcceptError) (error : AcceptError) → r ≡ Err error
+    → MatchOption (refusal_of so.failed so.pending so.moment input) (IfErr r (λ e. e ≡ NoMemory)) (λ e. r ≡ Err e)
+    → (refusal_of so.failed so.pending so.moment input ≡ None → HasSpace known input → IsOk r) → StopsAt so k (Accept input) (a_live.Accept k error)
+accept_stops so known k input r error is exact quiet =
+    let o = refusal_of so.failed so.pending so.moment input in
+    with_space o (IsTrue (may_add input)) (a_live.Accept k error ≡ a_live.Accept k NoMemory) (λ e. a_live.Accept k error ≡ a_live.Accept k e)
+    (λ none. wanted known input r error is (quiet none))
     (for_other o (error ≡ NoMemory) (a_live.Accept k error ≡ a_live.Accept k NoMemory) (λ e. a_live.Accept k error ≡ a_live.Accept k e)
-    (ap (λ (e : AcceptError). a_live.Accept k e)) (its_cause o r error (λ e. e ≡ NoMemory) (λ (e : AcceptError). a_live.Accept k e) is exact)))
+    (ap (λ (e : AcceptError). a_live.Accept k e)) (its_cause o r error (λ e. e ≡ NoMemory) (λ (e : AcceptError). a_live.Accept k e) is exact))
 
 -- a flush with nothing pending met no fault
 only_pending : {X D : Type 0} (r : Result X FlushError) (state : D → State) (old new : D) (pending : ℕ) → r ≡ Err DeviceFault

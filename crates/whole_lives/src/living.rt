@@ -21,15 +21,16 @@ use events::Step;
 use mode_table::Cold;
 use onboard::{Onboard, OpenError, Released};
 use std::alloc::Global;
+use step_list::StepSource;
 
 /// One life (this project's profile): powers up on the disk, and takes the steps in order, up to the first error, whose
 /// step it names. What is released is handed to the sink as it is released. It hands the disk back. `cold` says whether
 /// the train moved without power; the caller owes that "not moved" is true.
-pub fn live_into<D: Disk, S: ReleaseSink>(
+pub fn live_into<D: Disk, S: ReleaseSink, P: StepSource>(
     alloc: Global,
     disk: D,
     cold: Cold,
-    steps: &[Step],
+    steps: &P,
     sink: &mut S,
 ) -> (D, Result<(), LiveError>)
     ensures counted { Counted (live_failed result.1) (D.state disk) (D.state result.0) }
@@ -51,21 +52,21 @@ pub fn live_into<D: Disk, S: ReleaseSink>(
         HasNoCause (D.state disk).sectors (contents_of (D.state disk)) }
 
     // The error names the first step that isn't carried out, or the opening, and its cause.
-    ensures stopped { LifeEnds (D.state disk) steps.now result.1 }
+    ensures stopped { LifeEnds (D.state disk) (P.listed steps.now) result.1 }
 
     // Where power is lost and what is released, for every list of events that the disk represents.
     ensures life { (whole_from : ℕ) (durable accepted : List Event) → IsTrue (D.state disk).honest →
         IsReady whole_from durable accepted (D.state disk) →
         (found : List Event) × (power_up_cold : Cold) × (released : List Released) × S.Gave sink.old released sink.new
-        × (lived : Lives whole_from durable accepted found cold power_up_cold steps.now (D.state disk)
+        × (lived : Lives whole_from durable accepted found cold power_up_cold (P.listed steps.now) (D.state disk)
         (D.state result.0) [] released)
-        × IsDone (PowerUp power_up_cold ∷ found) steps.now
+        × IsDone (PowerUp power_up_cold ∷ found) (P.listed steps.now)
         (OnlyOpens whole_from durable accepted found power_up_cold (D.state disk) (D.state result.0))
         result.1 lived.steps_taken lived.durable_at_end lived.accepted_at_end lived.released
         × IsUnflushed whole_from
-        (IsOfLife whole_from (D.state disk).sectors durable accepted found power_up_cold) steps.now result.1
+        (IsOfLife whole_from (D.state disk).sectors durable accepted found power_up_cold) (P.listed steps.now) result.1
         lived.durable_at_end (D.state disk) (D.state result.0)
-        × LeavesLast found power_up_cold steps.now result.1 (D.state result.0) }
+        × LeavesLast found power_up_cold (P.listed steps.now) result.1 (D.state result.0) }
 {
     match Onboard::open(alloc, disk, cold) {
         Ok(unit) => {
@@ -120,5 +121,5 @@ pub fn live<D: Disk>(
         lived.durable_at_end (D.state disk) (D.state result.0)
         × LeavesLast found power_up_cold steps.now result.1 (D.state result.0) }
 {
-    live_into(alloc, disk, cold, steps, out)
+    live_into(alloc, disk, cold, &steps, out)
 }

@@ -20,6 +20,7 @@ use disk::Disk;
 use events::{Input, Step};
 use onboard::{Onboard, Released};
 use std::alloc::Global;
+use step_list::StepSource;
 
 // Flushes, once there is space for what may be released.
 fn flush_into<D: Disk, S: ReleaseSink>(
@@ -61,35 +62,34 @@ fn flush_into<D: Disk, S: ReleaseSink>(
     }
 }
 
-// Accepts a copy of the input.
 fn accept_one<D: Disk>(
     alloc: Global,
     unit: &mut Onboard<D>,
     k: usize,
-    input: &Input,
+    input: Input,
 ) -> Result<(), LiveError>
     ensures counted { Counted (live_failed result) (D.state unit.old.disk) (D.state unit.new.disk) }
     ensures stepped { (whole_from : ℕ) (durable accepted : List Event) → IsTrue (D.state unit.old.disk).honest →
         IsOpen unit.old.journal (account_of whole_from durable) (D.state unit.old.disk) →
         IsAhead durable accepted unit.old.life →
-        IsStepped whole_from (a_step.Accept input.now) durable accepted (D.state unit.old.disk) (D.state unit.new.disk)
+        IsStepped whole_from (a_step.Accept input) durable accepted (D.state unit.old.disk) (D.state unit.new.disk)
         × OnOk result (IsOpen unit.new.journal (account_of whole_from durable) (D.state unit.new.disk)
-        × IsAhead durable (an_input input.now ∷ accepted) unit.new.life) }
+        × IsAhead durable (an_input input ∷ accepted) unit.new.life) }
     ensures last { (whole_from : ℕ) (earlier durable accepted : List Event) → IsTrue (D.state unit.old.disk).honest →
         IsOpen unit.old.journal (account_of whole_from durable) (D.state unit.old.disk) →
         IsAhead durable accepted unit.old.life →
         IsLastWritten (D.state unit.old.disk).sectors earlier durable (contents_of (D.state unit.old.disk)) →
         OnOk result (IsLastWritten (D.state unit.new.disk).sectors
-        (earlier_one earlier durable accepted (a_step.Accept input.now)) durable
+        (earlier_one earlier durable accepted (a_step.Accept input)) durable
         (contents_of (D.state unit.new.disk))) }
     ensures has_space_left { IfErr result (λ e. is_full e ≡ false) }
     ensures named { IfErr result (λ e. step_of e ≡ Some k) }
-    ensures stood { OnOk result (Stands (progress_of unit.old.journal unit.old.life) (a_step.Accept input.now)
+    ensures stood { OnOk result (Stands (progress_of unit.old.journal unit.old.life) (a_step.Accept input)
         × (progress_of unit.new.journal unit.new.life
-        ≡ go_on (progress_of unit.old.journal unit.old.life) (a_step.Accept input.now))) }
-    ensures stopped { IfErr result (StopsAt (progress_of unit.old.journal unit.old.life) k (a_step.Accept input.now)) }
+        ≡ go_on (progress_of unit.old.journal unit.old.life) (a_step.Accept input))) }
+    ensures stopped { IfErr result (StopsAt (progress_of unit.old.journal unit.old.life) k (a_step.Accept input)) }
 {
-    match unit.accept(alloc, input.copy()) {
+    match unit.accept(alloc, input) {
         Ok(()) => Ok(()),
         Err(error) => Err(LiveError::Accept(k, error)),
     }
@@ -99,28 +99,28 @@ fn take<D: Disk, S: ReleaseSink>(
     alloc: Global,
     unit: &mut Onboard<D>,
     k: usize,
-    step: &Step,
+    step: Step,
     sink: &mut S,
 ) -> Result<(), LiveError>
     ensures counted { Counted (live_failed result) (D.state unit.old.disk) (D.state unit.new.disk) }
     ensures stepped { (whole_from : ℕ) (durable accepted : List Event) → IsTrue (D.state unit.old.disk).honest →
         IsOpen unit.old.journal (account_of whole_from durable) (D.state unit.old.disk) →
         IsAhead durable accepted unit.old.life →
-        IsStepped whole_from step.now durable accepted (D.state unit.old.disk) (D.state unit.new.disk)
+        IsStepped whole_from step durable accepted (D.state unit.old.disk) (D.state unit.new.disk)
         × OnOk result ((released : List Released) × S.Gave sink.old released sink.new
-        × Took whole_from durable accepted step.now unit.new.journal unit.new.life (D.state unit.new.disk) released) }
+        × Took whole_from durable accepted step unit.new.journal unit.new.life (D.state unit.new.disk) released) }
     ensures last { (whole_from : ℕ) (earlier durable accepted : List Event) → IsTrue (D.state unit.old.disk).honest →
         IsOpen unit.old.journal (account_of whole_from durable) (D.state unit.old.disk) →
         IsAhead durable accepted unit.old.life →
         IsLastWritten (D.state unit.old.disk).sectors earlier durable (contents_of (D.state unit.old.disk)) →
-        OnOk result (IsLastWritten (D.state unit.new.disk).sectors (earlier_one earlier durable accepted step.now)
-        (flush_one durable accepted step.now) (contents_of (D.state unit.new.disk))) }
+        OnOk result (IsLastWritten (D.state unit.new.disk).sectors (earlier_one earlier durable accepted step)
+        (flush_one durable accepted step) (contents_of (D.state unit.new.disk))) }
     ensures nothing { OnErr result (S.Gave sink.old [] sink.new) }
     ensures full { IfErr result (λ e. IsTrue (is_full e) → (S.space sink.new < most_pending) × (unit.new ≡ unit.old)) }
     ensures named { IfErr result (λ e. step_of e ≡ Some k) }
-    ensures stood { OnOk result (Stands (progress_of unit.old.journal unit.old.life) step.now
-        × (progress_of unit.new.journal unit.new.life ≡ go_on (progress_of unit.old.journal unit.old.life) step.now)) }
-    ensures stopped { IfErr result (StopsAt (progress_of unit.old.journal unit.old.life) k step.now) }
+    ensures stood { OnOk result (Stands (progress_of unit.old.journal unit.old.life) step
+        × (progress_of unit.new.journal unit.new.life ≡ go_on (progress_of unit.old.journal unit.old.life) step)) }
+    ensures stopped { IfErr result (StopsAt (progress_of unit.old.journal unit.old.life) k step) }
 {
     match step {
         Step::Accept(input) => match accept_one(alloc, unit, k, input) {
@@ -136,34 +136,34 @@ fn take<D: Disk, S: ReleaseSink>(
 
 /// Takes the steps in order, up to the first error, whose step it names, and hands on what is released as it is
 /// released (this project's profile).
-pub fn run_into<D: Disk, S: ReleaseSink>(
+pub fn run_into<D: Disk, S: ReleaseSink, P: StepSource>(
     alloc: Global,
     unit: &mut Onboard<D>,
-    steps: &[Step],
+    steps: &P,
     sink: &mut S,
 ) -> Result<(), LiveError>
     ensures counted { Counted (live_failed result) (D.state unit.old.disk) (D.state unit.new.disk) }
     ensures full { IfErr result (λ e. IsTrue (is_full e) → S.space sink.new < most_pending) }
-    ensures stopped { StepsEnd (progress_of unit.old.journal unit.old.life) steps.now result }
+    ensures stopped { StepsEnd (progress_of unit.old.journal unit.old.life) (P.listed steps.now) result }
     ensures named { IfErr result (λ e. step_of e ≢ None) }
     ensures ran { (whole_from : ℕ) (initial : List Event) → IsTrue (D.state unit.old.disk).honest →
         IsOpen unit.old.journal (account_of whole_from initial) (D.state unit.old.disk) →
         IsAhead initial initial unit.old.life →
         (released : List Released) × S.Gave sink.old released sink.new
-        × (ended_run : Ran whole_from initial steps.now (D.state unit.old.disk) (D.state unit.new.disk) [] released)
-        × IsDone initial steps.now ⊥ result ended_run.steps_taken ended_run.durable_at_end ended_run.accepted_at_end ended_run.released
-        × IsUnflushed whole_from (IsOfRun whole_from (D.state unit.old.disk).sectors initial) steps.now result
+        × (ended_run : Ran whole_from initial (P.listed steps.now) (D.state unit.old.disk) (D.state unit.new.disk) [] released)
+        × IsDone initial (P.listed steps.now) ⊥ result ended_run.steps_taken ended_run.durable_at_end ended_run.accepted_at_end ended_run.released
+        × IsUnflushed whole_from (IsOfRun whole_from (D.state unit.old.disk).sectors initial) (P.listed steps.now) result
         ended_run.durable_at_end
         (D.state unit.old.disk) (D.state unit.new.disk) }
     ensures last { (whole_from : ℕ) (earlier initial : List Event) → IsTrue (D.state unit.old.disk).honest →
         IsOpen unit.old.journal (account_of whole_from initial) (D.state unit.old.disk) →
         IsAhead initial initial unit.old.life →
         IsLastWritten (D.state unit.old.disk).sectors earlier initial (contents_of (D.state unit.old.disk)) →
-        OnOk result (IsLastWritten (D.state unit.new.disk).sectors (earlier_by earlier initial initial steps.now)
-        (durable_by initial steps.now) (contents_of (D.state unit.new.disk))) }
+        OnOk result (IsLastWritten (D.state unit.new.disk).sectors (earlier_by earlier initial initial (P.listed steps.now))
+        (durable_by initial (P.listed steps.now)) (contents_of (D.state unit.new.disk))) }
 {
-    for k in 0..steps.len() {
-        match take(alloc, unit, k, &steps[k], sink) {
+    for k in 0..steps.count() {
+        match take(alloc, unit, k, steps.step(k), sink) {
             Ok(()) => {}
             Err(error) => return Err(error),
         }
@@ -197,5 +197,5 @@ pub fn run<D: Disk>(
         OnOk result (IsLastWritten (D.state unit.new.disk).sectors (earlier_by earlier initial initial steps.now)
         (durable_by initial steps.now) (contents_of (D.state unit.new.disk))) }
 {
-    run_into(alloc, unit, steps, out)
+    run_into(alloc, unit, &steps, out)
 }

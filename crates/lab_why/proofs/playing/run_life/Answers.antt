@@ -21,17 +21,13 @@ ends_so steps (Err error) ends = ends
 pub returns-clause-released : goal.returns-clause-released
 returns-clause-released c =
     let life = c.args.life.now in
-    let steps : List Step = c.as_slice.result.now in
     let ended : Result (Unit {0}) LiveError = c.in_ok-played.played.ended in
     let out : List Release = c.in_ok-played.played.released.items in
-    let all : pairs_of (durable_by (initial life.cold) (carried_out steps (result_err ended))) ≡ pairs_of (initial life.cold) ++ out =
-    ap (λ (l : List Step). pairs_of (durable_by (initial life.cold) l)) (same_steps steps ended) ∙ c.in_ok-played.ensures.outputs in
-    subst (λ (s : Option LiveError). pairs_of (durable_by (initial life.cold) (carried_out life.steps.items s)) ≡ pairs_of (initial life.cold) ++ out)
+    subst (λ (s : Option LiveError). pairs_of (durable_by (initial life.cold) (carried_out life.steps s)) ≡ pairs_of (initial life.cold) ++ out)
     (sym c.err.ensures.value)
-    (subst (λ (l : List Step). pairs_of (durable_by (initial life.cold) (carried_out l (result_err ended))) ≡ pairs_of (initial life.cold) ++ out) c.as_slice.ensures.value all)
+    (ap (λ (l : List Step). pairs_of (durable_by (initial life.cold) l)) (same_steps life.steps ended) ∙ c.in_ok-played.ensures.outputs)
 
 pub returns-clause-ends : goal.returns-clause-ends
 returns-clause-ends c =
-    subst (λ (s : Option LiveError). PlayEnds c.args.life.now.steps.items s) (sym c.err.ensures.value)
-    (subst (λ (l : List Step). PlayEnds l (result_err c.in_ok-played.played.ended)) c.as_slice.ensures.value
-    (ends_so c.as_slice.result.now c.in_ok-played.played.ended c.in_ok-played.ensures.ends))
+    subst (λ (s : Option LiveError). PlayEnds c.args.life.now.steps s) (sym c.err.ensures.value)
+    (ends_so c.args.life.now.steps c.in_ok-played.played.ended c.in_ok-played.ensures.ends)

@@ -1,4 +1,4 @@
-use Rattle.std.proofs.Common.{◌≡◌, ℕ, suc, ◌+◌, ◌<◌, ◌≤◌, List, [], ◌∷◌, ◌++◌, length, take, drop, get_or, refl, sym, ◌∙◌, ap, subst, arith}
+use Rattle.std.proofs.Common.{rules, ◌≡◌, ℕ, suc, ◌+◌, ◌<◌, ◌≤◌, List, [], ◌∷◌, ◌++◌, length, take, drop, get_or, refl, sym, ◌∙◌, ap, subst, arith}
 use Rattle.events.specs.declared.input.Event.{Event}
 use Rattle.events.specs.declared.input.Event.TheVariants as an_event
 use Rattle.events.specs.declared.kept.Kept.{Kept}
@@ -29,13 +29,12 @@ loop-place-init g c = record {
 pub loop-place-preserved-in_default : goal.loop-place-preserved-in_default
 loop-place-preserved-in_default g c =
     let life = c.args.life.now in
-    let steps : List Step = life.steps.items in
+    let steps : List Step = life.steps in
     let place : ℕ = c.loop-place.place in
-    let x : Step = c.index-steps-place.result in
+    let x : Step = c.get.result in
     let before = c.loop-place.invariant in
-    let same : c.as_slice-steps.result.now ≡ steps = c.as_slice-steps.ensures.value in
-    let at : x ≡ get_or steps place x = c.index-steps-place.is ∙ ap (λ (l : List Step). get_or l place x) same in
-    let below : place < length steps = omega (arith, ap length same, c.loop-place-test.true) in
+    let at : x ≡ get_or steps place x = c.get.ensures in
+    let below : place < length steps = search rules in
     let on : accepted_by (initial life.cold) (take (place + 1) steps) ≡ up_to_here life.cold steps place =
     one_on life.cold steps place x x below at ∙ ap (accept_one (up_to_here life.cold steps place)) c.in_default.is in
     record {
@@ -54,21 +53,20 @@ returns-then-reported-released g c = λ durable more accepted pairs.
     let before = c.loop-place.invariant in
     let so = before.lines durable more accepted pairs in
     let reported : c.loop-place.reported ≡ length c.args.released.now = omega arith in
-    let all = all_reported life.cold life.steps.items c.loop-place.place durable more c.args.released.now accepted pairs (before.count ∙ ap suc reported) in
+    let all = all_reported life.cold life.steps c.loop-place.place durable more c.args.released.now accepted pairs (before.count ∙ ap suc reported) in
     (so.0, subst (λ (l : List Event). AreLines (input_steps life) l so.0) all so.1, so.2)
 
 pub loop-place-preserved : goal.loop-place-preserved
 loop-place-preserved g c =
     let life = c.args.life.now in
-    let steps : List Step = life.steps.items in
+    let steps : List Step = life.steps in
     let ends : List ℕ = life.ends.items in
     let place : ℕ = c.loop-place.place in
-    let x : Step = c.index-steps-place.result in
+    let x : Step = c.get.result in
     let input = c.in-Accept.input in
     let before = c.loop-place.invariant in
-    let same : c.as_slice-steps.result.now ≡ steps = c.as_slice-steps.ensures.value in
-    let below : place < length steps = omega (arith, ap length same, c.loop-place-test.true) in
-    let at : x ≡ get_or steps place x = c.index-steps-place.is ∙ ap (λ (l : List Step). get_or l place x) same in
+    let below : place < length steps = search rules in
+    let at : x ≡ get_or steps place x = c.get.ensures in
     let at_input : Accept input ≡ get_or steps place x = sym c.in-Accept.is ∙ at in
     let up : List Event = up_to_here life.cold steps place in
     let on : accepted_by (initial life.cold) (take (place + 1) steps) ≡ an_event.Input input ∷ up =
@@ -102,10 +100,9 @@ loop-place-preserved g c =
 pub returns : goal.returns
 returns g c = λ durable more accepted pairs.
     let life = c.args.life.now in
-    let steps : List Step = life.steps.items in
+    let steps : List Step = life.steps in
     let before = c.loop-place.invariant in
     let so = before.lines durable more accepted pairs in
-    let same : c.as_slice-steps.result.now ≡ steps = c.as_slice-steps.ensures.value in
-    let over : length steps ≤ c.loop-place.place = omega (arith, ap length same, c.loop-place-test.false) in
+    let over : length steps ≤ c.loop-place.place = search rules in
     let all = none_left life.cold steps c.loop-place.place durable more c.args.released.now accepted pairs c.loop-place.reported over before.count before.within in
     (so.0, subst (λ (l : List Event). AreLines (input_steps life) l so.0) all so.1, so.2)

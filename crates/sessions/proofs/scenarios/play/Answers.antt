@@ -5,7 +5,7 @@ pub returns-in_default : goal.returns-in_default
 returns-in_default g c = record {
   reported = (
     c.in-Ok.life.0,
-    c.in-Ok.life.1.items,
+    c.in-Ok.life.1,
     c.in-Ok.ensures.ok,
     (
       c.in_default.ensures,
@@ -18,15 +18,13 @@ pub returns : goal.returns
 returns g c = record {
   reported = (
     c.in-Ok.life.0,
-    c.in-Ok.life.1.items,
+    c.in-Ok.life.1,
     c.in-Ok.ensures.ok,
     (
       c.in-Some.disk,
       c.in-Some.ensures,
       c.run_life-disk.ensures.counted,
-      λ whole_from durable accepted honest ready.
-          let session = c.run_life-disk.ensures.session whole_from durable accepted honest ready in
-          rw c.as_slice.ensures.value at session,
+      c.run_life-disk.ensures.session,
     ),
   );
 }

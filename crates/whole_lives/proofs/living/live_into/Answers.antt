@@ -23,12 +23,12 @@ returns-in-Ok-clause-life g c = λ whole_from d a honest ready.
     let up = c.in-Ok.ensures.powers_up.up whole_from d a honest ready in
     let still : IsTrue (g.D.WriteDisk.state c.in-Ok.unit.disk).honest = subst IsTrue (sym c.in-Ok.ensures.powers_up.counted.honest) honest in
     let ran = c.run_into-result.ensures.ran whole_from (PowerUp up.power_up_cold ∷ up.found) still up.opened up.ahead in
-    let lived = lives_ran whole_from d a up.found c.args.cold up.power_up_cold c.args.steps.now (g.D.WriteDisk.state c.args.disk) (g.D.WriteDisk.state c.in-Ok.unit.disk) up.opens (g.D.WriteDisk.state c.run_into-result.new.unit.disk) [] ran.0 up.recorded c.in-Ok.ensures.powers_up.counted.sectors ran.2 in
+    let lived = lives_ran whole_from d a up.found c.args.cold up.power_up_cold (g.P.StepSource.listed c.args.steps.now) (g.D.WriteDisk.state c.args.disk) (g.D.WriteDisk.state c.in-Ok.unit.disk) up.opens (g.D.WriteDisk.state c.run_into-result.new.unit.disk) [] ran.0 up.recorded c.in-Ok.ensures.powers_up.counted.sectors ran.2 in
     let U : Type 0 = OnlyOpens whole_from d a up.found up.power_up_cold (g.D.WriteDisk.state c.args.disk) (g.D.WriteDisk.state c.run_into-result.new.unit.disk) in
     let T : State → Type 0 = λ s. (x : List Event) × (w : Cold) × (given : List Released) × g.S.ReleaseSink.Gave c.args.sink.now given c.run_into-result.new.sink
-    × (x' : Lives whole_from d a x c.args.cold w c.args.steps.now (g.D.WriteDisk.state c.args.disk) s [] given) × IsDone (PowerUp w ∷ x) c.args.steps.now (OnlyOpens whole_from d a x w (g.D.WriteDisk.state c.args.disk) s) c.run_into-result.result x'.steps_taken x'.durable_at_end x'.accepted_at_end x'.released
-    × IsUnflushed whole_from (IsOfLife whole_from (g.D.WriteDisk.state c.args.disk).sectors d a x w) c.args.steps.now c.run_into-result.result x'.durable_at_end (g.D.WriteDisk.state c.args.disk) s
-    × LeavesLast x w c.args.steps.now c.run_into-result.result s in
+    × (x' : Lives whole_from d a x c.args.cold w (g.P.StepSource.listed c.args.steps.now) (g.D.WriteDisk.state c.args.disk) s [] given) × IsDone (PowerUp w ∷ x) (g.P.StepSource.listed c.args.steps.now) (OnlyOpens whole_from d a x w (g.D.WriteDisk.state c.args.disk) s) c.run_into-result.result x'.steps_taken x'.durable_at_end x'.accepted_at_end x'.released
+    × IsUnflushed whole_from (IsOfLife whole_from (g.D.WriteDisk.state c.args.disk).sectors d a x w) (g.P.StepSource.listed c.args.steps.now) c.run_into-result.result x'.durable_at_end (g.D.WriteDisk.state c.args.disk) s
+    × LeavesLast x w (g.P.StepSource.listed c.args.steps.now) c.run_into-result.result s in
     let I = IsOfLife whole_from (g.D.WriteDisk.state c.args.disk).sectors d a up.found up.power_up_cold in
     subst T (sym (ap g.D.WriteDisk.state c.close.ensures)) (
       up.found,
@@ -36,16 +36,16 @@ returns-in-Ok-clause-life g c = λ whole_from d a honest ready.
       ran.0,
       ran.1,
       lived.0,
-      same_done (PowerUp up.power_up_cold ∷ up.found) c.args.steps.now U c.run_into-result.result _ _ _ _ _ _ _ _ lived.1 lived.2 lived.3 lived.4 (done_opened (PowerUp up.power_up_cold ∷ up.found) c.args.steps.now U c.run_into-result.result _ _ _ _ ran.3),
-      same_unflushed whole_from I c.args.steps.now c.run_into-result.result ran.2.durable_at_end lived.0.durable_at_end (g.D.WriteDisk.state c.args.disk) (g.D.WriteDisk.state c.run_into-result.new.unit.disk) lived.2
-          (unflushed_on whole_from d a up.found c.args.cold up.power_up_cold c.args.steps.now (g.D.WriteDisk.state c.args.disk) (g.D.WriteDisk.state c.in-Ok.unit.disk) up.opens (g.D.WriteDisk.state c.run_into-result.new.unit.disk) c.run_into-result.result ran.2.durable_at_end c.in-Ok.ensures.powers_up.counted.sectors ran.4),
+      same_done (PowerUp up.power_up_cold ∷ up.found) (g.P.StepSource.listed c.args.steps.now) U c.run_into-result.result _ _ _ _ _ _ _ _ lived.1 lived.2 lived.3 lived.4 (done_opened (PowerUp up.power_up_cold ∷ up.found) (g.P.StepSource.listed c.args.steps.now) U c.run_into-result.result _ _ _ _ ran.3),
+      same_unflushed whole_from I (g.P.StepSource.listed c.args.steps.now) c.run_into-result.result ran.2.durable_at_end lived.0.durable_at_end (g.D.WriteDisk.state c.args.disk) (g.D.WriteDisk.state c.run_into-result.new.unit.disk) lived.2
+          (unflushed_on whole_from d a up.found c.args.cold up.power_up_cold (g.P.StepSource.listed c.args.steps.now) (g.D.WriteDisk.state c.args.disk) (g.D.WriteDisk.state c.in-Ok.unit.disk) up.opens (g.D.WriteDisk.state c.run_into-result.new.unit.disk) c.run_into-result.result ran.2.durable_at_end c.in-Ok.ensures.powers_up.counted.sectors ran.4),
       c.run_into-result.ensures.last whole_from up.found (PowerUp up.power_up_cold ∷ up.found) still up.opened up.ahead (record_of up.found (PowerUp up.power_up_cold) ∷ [], refl, up.last),
     )
 
 pub returns-in-Err-clause-life : goal.returns-in-Err-clause-life
 returns-in-Err-clause-life g c = λ whole_from d a honest ready.
     let back = c.in-Err.ensures.powers_up.up whole_from d a honest ready in
-    let lived = lives_refused whole_from d a back.found c.args.cold back.power_up_cold c.args.steps.now (g.D.WriteDisk.state c.args.disk) (g.D.WriteDisk.state c.in-Err.disk) back.opens [] in
+    let lived = lives_refused whole_from d a back.found c.args.cold back.power_up_cold (g.P.StepSource.listed c.args.steps.now) (g.D.WriteDisk.state c.args.disk) (g.D.WriteDisk.state c.in-Err.disk) back.opens [] in
     (back.found, back.power_up_cold, [], g.met.S.ReleaseSink.none c.args.sink.now, lived.0, (lived.1, back.opens.at_each_moment), (λ full. absurd cc), tt)
 
 pub returns-in-Ok-clause-counted : goal.returns-in-Ok-clause-counted
@@ -60,7 +60,7 @@ returns-in-Err-clause-counted g c = c.in-Err.ensures.powers_up.counted
 
 pub returns-in-Ok-clause-stopped : goal.returns-in-Ok-clause-stopped
 returns-in-Ok-clause-stopped g c =
-    let E : Progress → Type 0 = λ p. StepsEnd p c.args.steps.now c.run_into-result.result in
+    let E : Progress → Type 0 = λ p. StepsEnd p (g.P.StepSource.listed c.args.steps.now) c.run_into-result.result in
     let fresh = c.in-Ok.ensures.powers_up.fresh in
     inr (c.in-Ok.unit.journal.newest, c.in-Ok.ensures.powers_up.next, subst E (begins c.in-Ok.unit.journal c.in-Ok.unit.life fresh.0 fresh.2 fresh.3) c.run_into-result.ensures.stopped)
 

@@ -20,30 +20,28 @@ pub returns-in-Ok-clause-stepped : goal.returns-in-Ok-clause-stepped
 returns-in-Ok-clause-stepped g c = λ whole_from durable accepted honest opened ahead.
     let old : State = g.D.WriteDisk.state c.args.unit.now.disk in
     let same : g.D.WriteDisk.state c.accept.new.self.disk ≡ old = ap g.D.WriteDisk.state c.accept.ensures.device.0 in
-    let S : State → Type 0 = λ d. IsStepped whole_from (Accept c.args.input.now) durable accepted old d in
+    let S : State → Type 0 = λ d. IsStepped whole_from (Accept c.args.input) durable accepted old d in
     let O : State → Type 0 = λ d. IsOpen c.accept.new.self.journal (account_of whole_from durable) d in
-    let J : Journal → Type 0 = λ j. IsOpen j (account_of whole_from durable) old in
-    let A : Input → Type 0 = λ input. IsAhead durable (an_event.Input input ∷ accepted) c.accept.new.self.life in (
-      subst S (sym same) (quiet_step whole_from (Accept c.args.input.now) c.args.unit.now.journal durable accepted ahead.more old opened ahead.accepted_is),
-      (subst O (sym same) (subst J (sym c.accept.ensures.device.1) opened), subst A c.copy.ensures (c.in-Ok.ensures.accepted durable accepted ahead)),
+    let J : Journal → Type 0 = λ j. IsOpen j (account_of whole_from durable) old in (
+      subst S (sym same) (quiet_step whole_from (Accept c.args.input) c.args.unit.now.journal durable accepted ahead.more old opened ahead.accepted_is),
+      (subst O (sym same) (subst J (sym c.accept.ensures.device.1) opened), c.in-Ok.ensures.accepted durable accepted ahead),
     )
 
 pub returns-in-Err-clause-stepped : goal.returns-in-Err-clause-stepped
 returns-in-Err-clause-stepped g c = λ whole_from durable accepted honest opened ahead.
     let old : State = g.D.WriteDisk.state c.args.unit.now.disk in
     let same : g.D.WriteDisk.state c.accept.new.self.disk ≡ old = ap g.D.WriteDisk.state c.accept.ensures.device.0 in
-    let S : State → Type 0 = λ d. IsStepped whole_from (Accept c.args.input.now) durable accepted old d in
-    (subst S (sym same) (quiet_step whole_from (Accept c.args.input.now) c.args.unit.now.journal durable accepted ahead.more old opened ahead.accepted_is), tt)
+    let S : State → Type 0 = λ d. IsStepped whole_from (Accept c.args.input) durable accepted old d in
+    (subst S (sym same) (quiet_step whole_from (Accept c.args.input) c.args.unit.now.journal durable accepted ahead.more old opened ahead.accepted_is), tt)
 
 pub returns-in-Ok-clause-stood : goal.returns-in-Ok-clause-stood
 returns-in-Ok-clause-stood g c =
     let so : Progress = progress_of c.args.unit.now.journal c.args.unit.now.life in
-    let S : Input → Type 0 = λ x. Stands so (Accept x) × (progress_of c.accept.new.self.journal c.accept.new.self.life ≡ go_on so (Accept x)) in
-    subst S c.copy.ensures (no_cause (refusal_of so.failed so.pending so.moment c.copy.result) c.accept.result _ (λ e. e ≡ NoMemory) c.in-Ok.is c.accept.ensures.exact, c.in-Ok.ensures.gone_on)
+    (no_cause (refusal_of so.failed so.pending so.moment c.args.input) c.accept.result _ (λ e. e ≡ NoMemory) c.in-Ok.is c.accept.ensures.exact, c.in-Ok.ensures.gone_on)
 
 pub returns-in-Err-clause-stopped : goal.returns-in-Err-clause-stopped
 returns-in-Err-clause-stopped g c =
-    accept_stops (progress_of c.args.unit.now.journal c.args.unit.now.life) c.args.unit.now.life.state c.args.k c.args.input.now c.copy.result c.accept.result c.in-Err.error c.in-Err.is c.copy.ensures c.accept.ensures.exact c.accept.ensures.quiet
+    accept_stops (progress_of c.args.unit.now.journal c.args.unit.now.life) c.args.unit.now.life.state c.args.k c.args.input c.accept.result c.in-Err.error c.in-Err.is c.accept.ensures.exact c.accept.ensures.quiet
 
 pub returns-in-Ok-clause-last : goal.returns-in-Ok-clause-last
 returns-in-Ok-clause-last g c = λ whole_from earlier durable accepted honest opened ahead last.

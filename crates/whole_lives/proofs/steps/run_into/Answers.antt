@@ -24,7 +24,7 @@ loop-k-init g c = record {
   going = λ whole_from s honest opened ahead. (
     [],
     g.met.S.ReleaseSink.none c.args.sink.now,
-    going_first whole_from s c.args.steps.now (g.D.WriteDisk.state c.args.unit.now.disk) c.args.unit.now.journal c.args.unit.now.life opened ahead,
+    going_first whole_from s (g.P.StepSource.listed c.args.steps.now) (g.D.WriteDisk.state c.args.unit.now.disk) c.args.unit.now.journal c.args.unit.now.life opened ahead,
   );
   last = λ whole_from earlier s honest opened ahead last. last;
 }
@@ -34,14 +34,14 @@ returns-in-Err-clause-ran g c = λ whole_from s honest opened ahead.
     let so = c.loop-k.invariant.going whole_from s honest opened ahead in
     let going = so.2 in
     let still : IsTrue (g.D.WriteDisk.state c.loop-k.unit.disk).honest = subst IsTrue (sym c.loop-k.invariant.honest) honest in
-    let step = c.in-Err.ensures.stepped whole_from going.durable (accepted_by s (take c.loop-k.k c.args.steps.now)) still going.opened going.ahead in
-    let end = stopped whole_from s c.args.steps.now c.loop-k.k c.loop-k-test.true c.index-steps-k.result _ c.index-steps-k.is (g.D.WriteDisk.state c.args.unit.now.disk) (g.D.WriteDisk.state c.loop-k.unit.disk) c.loop-k.invariant.sectors c.loop-k.unit.journal c.loop-k.unit.life so.0 going (g.D.WriteDisk.state c.take.new.unit.disk) step.0 in
+    let step = c.in-Err.ensures.stepped whole_from going.durable (accepted_by s (take c.loop-k.k (g.P.StepSource.listed c.args.steps.now))) still going.opened going.ahead in
+    let end = stopped whole_from s (g.P.StepSource.listed c.args.steps.now) c.loop-k.k (search rules) c.step.result _ c.step.ensures (g.D.WriteDisk.state c.args.unit.now.disk) (g.D.WriteDisk.state c.loop-k.unit.disk) c.loop-k.invariant.sectors c.loop-k.unit.journal c.loop-k.unit.life so.0 going (g.D.WriteDisk.state c.take.new.unit.disk) step.0 in
     let G : List Released → Type 0 = λ l. g.S.ReleaseSink.Gave c.args.sink.now l c.take.new.sink in (
       so.0,
       subst G (append-nil so.0) (g.met.S.ReleaseSink.more c.args.sink.now c.loop-k.sink c.take.new.sink so.0 [] so.1 c.in-Err.ensures.nothing),
       end.0,
-      done_before s c.args.steps.now c.loop-k.k c.in-Err.error _ _ _ _ c.in-Err.ensures.named end.1 end.2,
-      unflushed whole_from s c.args.steps.now c.loop-k.k (g.D.WriteDisk.state c.args.unit.now.disk) (g.D.WriteDisk.state c.loop-k.unit.disk) (g.D.WriteDisk.state c.take.new.unit.disk) c.loop-k.unit.journal c.loop-k.unit.life so.0 c.in-Err.error
+      done_before s (g.P.StepSource.listed c.args.steps.now) c.loop-k.k c.in-Err.error _ _ _ _ c.in-Err.ensures.named end.1 end.2,
+      unflushed whole_from s (g.P.StepSource.listed c.args.steps.now) c.loop-k.k (g.D.WriteDisk.state c.args.unit.now.disk) (g.D.WriteDisk.state c.loop-k.unit.disk) (g.D.WriteDisk.state c.take.new.unit.disk) c.loop-k.unit.journal c.loop-k.unit.life so.0 c.in-Err.error
           c.loop-k.invariant.sectors going c.in-Err.ensures.named (λ full. ap (λ (u : UnitState _). g.D.WriteDisk.state u.disk) (c.in-Err.ensures.full full).1) end.0 (end.2.0 ∙ sym going.durable_is),
     )
 
@@ -50,16 +50,16 @@ loop-k-preserved g c = record {
   sectors = search rules;
   honest = search rules;
   faults = search rules;
-  stood = stood_on (progress_of c.args.unit.now.journal c.args.unit.now.life) (progress_of c.loop-k.unit.journal c.loop-k.unit.life) c.args.steps.now c.loop-k.k c.loop-k-test.true c.index-steps-k.result _ c.index-steps-k.is
+  stood = stood_on (progress_of c.args.unit.now.journal c.args.unit.now.life) (progress_of c.loop-k.unit.journal c.loop-k.unit.life) (g.P.StepSource.listed c.args.steps.now) c.loop-k.k (search rules) c.step.result _ c.step.ensures
       c.loop-k.invariant.stood.0 c.loop-k.invariant.stood.1 (progress_of c.take.new.unit.journal c.take.new.unit.life) c.in-Ok.ensures.stood.0 c.in-Ok.ensures.stood.1;
   going = λ whole_from s honest opened ahead.
       let so = c.loop-k.invariant.going whole_from s honest opened ahead in
       let going = so.2 in
       let still : IsTrue (g.D.WriteDisk.state c.loop-k.unit.disk).honest = subst IsTrue (sym c.loop-k.invariant.honest) honest in
-      let step = c.in-Ok.ensures.stepped whole_from going.durable (accepted_by s (take c.loop-k.k c.args.steps.now)) still going.opened going.ahead in (
+      let step = c.in-Ok.ensures.stepped whole_from going.durable (accepted_by s (take c.loop-k.k (g.P.StepSource.listed c.args.steps.now))) still going.opened going.ahead in (
         so.0 ++ step.1.0,
         g.met.S.ReleaseSink.more c.args.sink.now c.loop-k.sink c.take.new.sink so.0 step.1.0 so.1 step.1.1,
-        stepped whole_from s c.args.steps.now c.loop-k.k c.loop-k-test.true c.index-steps-k.result _ c.index-steps-k.is (g.D.WriteDisk.state c.args.unit.now.disk) (g.D.WriteDisk.state c.loop-k.unit.disk) c.loop-k.invariant.sectors c.loop-k.unit.journal c.loop-k.unit.life so.0 going (g.D.WriteDisk.state c.take.new.unit.disk) c.take.new.unit.journal c.take.new.unit.life step.1.0 (c.take.ensures.counted.sectors) step.0 step.1.2,
+        stepped whole_from s (g.P.StepSource.listed c.args.steps.now) c.loop-k.k (search rules) c.step.result _ c.step.ensures (g.D.WriteDisk.state c.args.unit.now.disk) (g.D.WriteDisk.state c.loop-k.unit.disk) c.loop-k.invariant.sectors c.loop-k.unit.journal c.loop-k.unit.life so.0 going (g.D.WriteDisk.state c.take.new.unit.disk) c.take.new.unit.journal c.take.new.unit.life step.1.0 (c.take.ensures.counted.sectors) step.0 step.1.2,
       );
   last = λ whole_from earlier s honest opened ahead last.
       let so = c.loop-k.invariant.going whole_from s honest opened ahead in
@@ -67,31 +67,31 @@ loop-k-preserved g c = record {
       let old : State = g.D.WriteDisk.state c.loop-k.unit.disk in
       let new : State = g.D.WriteDisk.state c.take.new.unit.disk in
       let still : IsTrue old.honest = subst IsTrue (sym c.loop-k.invariant.honest) honest in
-      let first = take c.loop-k.k c.args.steps.now in
+      let first = take c.loop-k.k (g.P.StepSource.listed c.args.steps.now) in
       let here = accepted_by s first in
       let before = earlier_by earlier s s first in
       let B : List Event → Type 0 = λ l. IsLastWritten old.sectors before l (contents_of old) in
-      let A : List Event → Type 0 = λ l. IsLastWritten new.sectors (earlier_one before l here c.index-steps-k.result) (flush_one l here c.index-steps-k.result) (contents_of new) in
+      let A : List Event → Type 0 = λ l. IsLastWritten new.sectors (earlier_one before l here c.step.result) (flush_one l here c.step.result) (contents_of new) in
       let was : B going.durable = subst B (sym going.durable_is) (c.loop-k.invariant.last whole_from earlier s honest opened ahead last) in
-      last_on earlier s c.args.steps.now c.loop-k.k c.index-steps-k.result _ new.sectors (contents_of new) c.loop-k-test.true c.index-steps-k.is
+      last_on earlier s (g.P.StepSource.listed c.args.steps.now) c.loop-k.k c.step.result _ new.sectors (contents_of new) (search rules) c.step.ensures
       (subst A going.durable_is (c.in-Ok.ensures.last whole_from before going.durable here still going.opened going.ahead was));
 }
 
 pub returns-clause-ran : goal.returns-clause-ran
 returns-clause-ran g c = λ whole_from s honest opened ahead.
     let so = c.loop-k.invariant.going whole_from s honest opened ahead in
-    let end = finished whole_from s c.args.steps.now c.loop-k.k (g.D.WriteDisk.state c.args.unit.now.disk) (g.D.WriteDisk.state c.loop-k.unit.disk) c.loop-k.unit.journal c.loop-k.unit.life so.0 so.2 in
-    let all = take_all c.loop-k.k c.args.steps.now (search rules) in
+    let end = finished whole_from s (g.P.StepSource.listed c.args.steps.now) c.loop-k.k (g.D.WriteDisk.state c.args.unit.now.disk) (g.D.WriteDisk.state c.loop-k.unit.disk) c.loop-k.unit.journal c.loop-k.unit.life so.0 so.2 in
+    let all = take_all c.loop-k.k (g.P.StepSource.listed c.args.steps.now) (search rules) in
     (so.0, so.1, end.0, (end.1 ∙ search rules, subst (λ (l : List Step). AreAfter s l end.0.durable_at_end end.0.accepted_at_end end.0.released) all end.2), tt)
 
 pub returns-in-Err-clause-stopped : goal.returns-in-Err-clause-stopped
-returns-in-Err-clause-stopped g c = stopped_here (progress_of c.args.unit.now.journal c.args.unit.now.life) (progress_of c.loop-k.unit.journal c.loop-k.unit.life) c.args.steps.now c.loop-k.k c.loop-k-test.true c.index-steps-k.result _ c.index-steps-k.is
+returns-in-Err-clause-stopped g c = stopped_here (progress_of c.args.unit.now.journal c.args.unit.now.life) (progress_of c.loop-k.unit.journal c.loop-k.unit.life) (g.P.StepSource.listed c.args.steps.now) c.loop-k.k (search rules) c.step.result _ c.step.ensures
     c.loop-k.invariant.stood.0 c.loop-k.invariant.stood.1 c.in-Err.error c.in-Err.ensures.stopped
 
 pub returns-clause-stopped : goal.returns-clause-stopped
 returns-clause-stopped g c =
     let A : List Step → Type 0 = λ l. AllStand (progress_of c.args.unit.now.journal c.args.unit.now.life) l in
-    subst A (take_all c.loop-k.k c.args.steps.now (search rules)) c.loop-k.invariant.stood.0
+    subst A (take_all c.loop-k.k (g.P.StepSource.listed c.args.steps.now) (search rules)) c.loop-k.invariant.stood.0
 
 pub returns-in-Err-clause-full : goal.returns-in-Err-clause-full
 returns-in-Err-clause-full g c = λ full. (c.in-Err.ensures.full full).0
@@ -103,4 +103,4 @@ pub returns-clause-last : goal.returns-clause-last
 returns-clause-last g c = λ whole_from earlier s honest opened ahead last.
     let new : State = g.D.WriteDisk.state c.loop-k.unit.disk in
     let L : List Step → Type 0 = λ l. IsLastWritten new.sectors (earlier_by earlier s s l) (durable_by s l) (contents_of new) in
-    subst L (take_all c.loop-k.k c.args.steps.now (search rules)) (c.loop-k.invariant.last whole_from earlier s honest opened ahead last)
+    subst L (take_all c.loop-k.k (g.P.StepSource.listed c.args.steps.now) (search rules)) (c.loop-k.invariant.last whole_from earlier s honest opened ahead last)

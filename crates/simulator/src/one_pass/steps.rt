@@ -47,7 +47,7 @@ fn clock_of(reader: &mut Reader<'_>) -> Option<Ms>
 
 #[inline(always)]
 fn drive_of(reader: &mut Reader<'_>) -> Option<(Distance, Mph)>
-    ensures { IfSome result (λ asked. Asks drive reader.old (Drive asked.0 asked.1) reader.new) }
+    ensures { IfSome result (λ pair. Asks drive reader.old (Drive pair.0 pair.1) reader.new) }
 {
     begin_array(reader)?;
     let cm = number(reader)?;

@@ -1,18 +1,15 @@
-use Rattle.std.proofs.Common.{◌≡◌, ◌∷◌, sym, subst, ap}
+use Rattle.std.proofs.Common.{◌≡◌, sym, subst, ap}
 use Rattle.disk.specs.State.{State, contents_of}
-use Rattle.events.specs.declared.input.Event.TheVariants as an_event
-use Rattle.events.specs.declared.input.Input.{Input}
 use Rattle.journal.specs.Journals.{IsOpen}
 use Rattle.journal.specs.JournalState.{JournalState as Journal}
-use Rattle.unit_start.specs.Events.{account_of, IsAhead}
+use Rattle.unit_start.specs.Events.{account_of}
 use Rattle.whole_lives.specs.Runs.{IsStepped}
 use Rattle.events.specs.declared.step.Step.TheVariants.{Accept}
 use Rattle.whole_lives.specs.Written.{IsLastWritten}
 use Rattle.whole_lives.proofs.Stepping.{quiet_step}
 use Rattle.whole_lives.proofs.Stopping.{no_cause, accept_stops}
 use Rattle.onboard.specs.Answers.{refusal_of}
-use Rattle.onboard.specs.Progress.{Progress, progress_of, go_on}
-use Rattle.whole_lives.specs.Stops.{Stands}
+use Rattle.onboard.specs.Progress.{Progress, progress_of}
 use Rattle.onboard.specs.declared.errors.AcceptError.TheVariants.{NoMemory}
 use Rattle.whole_lives.proofs.steps.accept_one.Goals as goal
 

@@ -1,9 +1,10 @@
 #!/usr/bin/env python3
 """Refuses the program's requests for memory, each in turn, until a run gets no refusal. A refused run says so, by one line in
 place of what it had no memory for, and ends with status 1; what it printed before is what the undisturbed run prints, and the image
-holds every event that it printed. After up to three requests a run of a scenario does all as the undisturbed one: those for the tape
-that its text is laid on, in whose place a tree is made (`crates/json_values`). A series without a refusal fails: each run
-allocates memory at least for its arguments, so there the refusing doesn't work.
+holds every event that it printed. After some requests, one after another, a run of a scenario does all as the undisturbed one: those of
+the reader that reads a scenario in one pass, in whose place the other reader reads it, and those for that one's tape, in whose place a
+tree is made (`crates/simulator`, `crates/json_values`). A series without a refusal fails: each run allocates memory at least for its
+arguments, so there the refusing doesn't work.
 
     tests/hostile/refused_memory.py [FILE ..]    over the rows below, and over these scenarios
 """
@@ -18,8 +19,9 @@ from compared import Compared
 # What a run without memory says: words, decoding, a scenario, an opening, a step, a listing.
 SAYS = ("refused memory", "refused 5 NoMemory", "stopped 4 NoMemory", "stopped 12 NoMemory", "refused 34 NoMemory")
 MOST = 1_000_000
-# The requests for the tape of a scenario, at most.
-MOST_OF_TAPE = 3
+# The requests of the reader in one pass and for a tape, at most: one for the text's escapes, and some for each list that grows, for each action
+# and each telegram.
+MOST_OF_READER = 20
 
 
 def is_refusal(status, text, undisturbed):
@@ -49,7 +51,7 @@ def series(name, words, folder, refuse, failures, image=None):
     if image:
         shutil.copy(image, kept)
     undisturbed = run_program(words)
-    count = of_tape = 0
+    count, of_reader = 0, []
     for at in range(1, MOST):
         said.unlink(missing_ok=True)
         if image:
@@ -59,8 +61,8 @@ def series(name, words, folder, refuse, failures, image=None):
             failures.unless((status, text) == undisturbed, f"{name}: with all memory {status} {text!r}")
             break
         count += 1
-        if words[0] == "run" and (status, text) == undisturbed and of_tape < MOST_OF_TAPE:
-            of_tape += 1
+        if words[0] == "run" and (status, text) == undisturbed and of_reader in ([], list(range(at - len(of_reader), at))):
+            of_reader.append(at)
         else:
             failures.unless(is_refusal(status, text, undisturbed[1]), f"{name}, request {at}: {status} {text[-200:]!r}")
         if image:
@@ -68,8 +70,9 @@ def series(name, words, folder, refuse, failures, image=None):
             again = run_program(words)
             failures.unless(again[0] == undisturbed[0], f"{name}, request {at}: the next run ends with {again[0]}")
     failures.unless(count, f"{name}: no request was refused")
-    failures.unless(count > of_tape, f"{name}: no refusal was reported")
-    print(f"{name}: {count} requests refused, {of_tape} of them for a tape")
+    failures.unless(count > len(of_reader), f"{name}: no refusal was reported")
+    failures.unless(len(of_reader) <= MOST_OF_READER, f"{name}: {len(of_reader)} requests are of the reader in one pass or for a tape")
+    print(f"{name}: {count} requests refused, {len(of_reader)} of them of the reader in one pass or for a tape")
     return count
 
 

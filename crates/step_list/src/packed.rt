@@ -30,17 +30,6 @@ pub(crate) enum Packed {
     Driver(usize),
 }
 
-// A movement of one reading.
-fn movement(cm: i64) -> Movement
-    requires { IsMovement cm }
-    ensures { result ≡ cm }
-{
-    match Movement::new(cm) {
-        Some(movement) => movement,
-        None => unreachable!(),
-    }
-}
-
 impl ShortReading {
     ghost use Rattle.step_list.specs.Packing.{reading_of};
 
@@ -59,7 +48,7 @@ impl ShortReading {
         ensures { result ≡ reading_of self }
     {
         Reading {
-            movement: movement(i64::from(self.cm)),
+            movement: Movement::new(i64::from(self.cm)).unwrap(),
             speed: self.speed,
         }
     }

@@ -20,7 +20,7 @@ mkdir "$made/cases" "$made/answers" || exit 1
 [ -n "$ROWS" ] || { ROWS=$made/rows && python3 ../plain/make_rows.py "$ROWS" ${SEED:-} >/dev/null; } || exit 1
 ROWS=$(realpath "$ROWS") || exit 1
 export ROWS
-modules=(test_decode test_parts test_modes test_disk test_blocks test_journal test_onboard test_kernel test_track test_guard test_json)
+modules=(test_decode test_parts test_modes test_disk test_blocks test_journal test_onboard test_kernel test_track test_guard)
 status=0
 
 # rows NAME FLOOR: the rows of a module
@@ -47,5 +47,4 @@ rows test_onboard 34585
 rows test_kernel 711
 rows test_track 86
 rows test_guard 181
-rows test_json 13
 exit $status

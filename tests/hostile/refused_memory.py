@@ -2,9 +2,8 @@
 """Refuses the program's requests for memory, each in turn, until a run gets no refusal. A refused run says so, by one line in
 place of what it had no memory for, and ends with status 1; what it printed before is what the undisturbed run prints, and the image
 holds every event that it printed. After some requests, one after another, a run of a scenario does all as the undisturbed one: those of
-the reader that reads a scenario in one pass, in whose place the other reader reads it, and those for that one's tape, in whose place a
-tree is made (`crates/simulator`, `crates/json_values`). A series without a refusal fails: each run allocates memory at least for its
-arguments, so there the refusing doesn't work.
+the reader that reads a scenario in one pass, in whose place the other reader reads it (`crates/simulator`). A series without a
+refusal fails: each run allocates memory at least for its arguments, so there the refusing doesn't work.
 
     tests/hostile/refused_memory.py [FILE ..]    over the rows below, and over these scenarios
 """
@@ -19,8 +18,8 @@ from compared import Compared
 # What a run without memory says: words, decoding, a scenario, an opening, a step, a listing.
 SAYS = ("refused memory", "refused 5 NoMemory", "stopped 4 NoMemory", "stopped 12 NoMemory", "refused 34 NoMemory")
 MOST = 1_000_000
-# The requests of the reader in one pass and for a tape, at most: one for the text's escapes, and some for each list that grows, for each action
-# and each telegram.
+# The requests of the reader in one pass, at most: one for the text's escapes, and some for each list that grows, for each action and each
+# telegram.
 MOST_OF_READER = 20
 
 
@@ -71,8 +70,8 @@ def series(name, words, folder, refuse, failures, image=None):
             failures.unless(again[0] == undisturbed[0], f"{name}, request {at}: the next run ends with {again[0]}")
     failures.unless(count, f"{name}: no request was refused")
     failures.unless(count > len(of_reader), f"{name}: no refusal was reported")
-    failures.unless(len(of_reader) <= MOST_OF_READER, f"{name}: {len(of_reader)} requests are of the reader in one pass or for a tape")
-    print(f"{name}: {count} requests refused, {len(of_reader)} of them of the reader in one pass or for a tape")
+    failures.unless(len(of_reader) <= MOST_OF_READER, f"{name}: {len(of_reader)} requests are of the reader in one pass")
+    print(f"{name}: {count} requests refused, {len(of_reader)} of them of the reader in one pass")
     return count
 
 

@@ -1,8 +1,2 @@
-pub mod Single
-pub mod Counted
-pub mod Judged
-pub mod Looked
-pub mod Read
-pub mod Same
-pub mod Spelled
+pub mod Lists
 pub mod Written

@@ -1,5 +1,5 @@
 //! The whole number that a number of JSON writes.
-ghost use Rattle.std.specs.Prelude.{◌≡◌, ◌==◌, ◌<◌, ◌^◌, IsTrue, OnSome, IfSome, Some, is_some, slice_index, length, true, false, option_and_then, option_map};
+ghost use Rattle.std.specs.Prelude.{◌≡◌, ◌==◌, ◌<◌, ◌^◌, IsTrue, OnSome, IfSome, Some, is_some, slice_index, length, true, false};
 ghost use Rattle.serde_json.specs.Data.{Num, unsigned};
 ghost use Rattle.serde_json.specs.Find.{as_i64};
 ghost use Rattle.serde_json.specs.Read.{number_of, number_from};
@@ -77,12 +77,4 @@ pub fn whole(text: &str) -> Option<i64>
         Some(number) => Some(number as i64),
         None => scanned(text),
     }
-}
-
-/// Whether the text of a number writes a whole one of 64 bits.
-#[inline(always)]
-pub(crate) fn is_whole(text: &str) -> bool
-    ensures { IsTrue result → is_some (number_of text.now) ≡ true }
-{
-    digits(text).is_some() || scanned(text).is_some()
 }

@@ -1,5 +1,6 @@
 -- How tokens spell a value, token by token.
 use Rattle.std.proofs.Common.{◌≡◌, ℕ, suc, ◌≤◌, ◌<◌, ℤ, List, [], ◌∷◌, ◌++◌, length, Bool, true, Option, Some, None, option_map, option_and_then, is_some, IfSome, OnSome, refl, sym, ap, ◌∙◌, arith, append_assoc, length-append}
+use Rattle.std.proofs.lemmas.Bool.{false≢true}
 use Rattle.json.specs.Json as json
 use Rattle.json.specs.Lex.{tokens}
 use Rattle.json.specs.Reads.{token_of}
@@ -7,7 +8,6 @@ use Rattle.json.specs.Token.{Token}
 use Rattle.json.specs.declared.token.Token as a_token
 use Rattle.json.specs.Tree.{json_tokens, items_tokens, members_tokens}
 use Rattle.json.proofs.Printed.Trees.{value-json_tokens}
-use Rattle.json_values.proofs.Read.{there}
 use Rattle.serde_json.specs.Data.{Data, Num, number, string, boolean, array, object, Items, no_items, item, Members, no_members, put}
 use Rattle.serde_json.specs.Find.{as_i64}
 use Rattle.serde_json.specs.Read.{number_of, of_json, of_items, of_members, max_depth, read}
@@ -22,6 +22,10 @@ known {ts} {rest} e is = e ∙ ap (λ t. token_of t ∷ rest) is
 
 pub spelled_number : {ts rest : List Token} {s : List ℕ} {n : Num} → ts ≡ Token.number s ∷ rest → number_of s ≡ Some n → SpellsValue 0 ts (number n) rest
 spelled_number {ts} {rest} {s} {n} e is = (json.number s, e, omega arith, ap (option_map number) is)
+
+there : {A : Type 0} (o : Option A) → is_some o ≡ true → (a : A) × (o ≡ Some a)
+there None h = absurd (false≢true h)
+there (Some a) h = (a, refl)
 
 pub spelled_whole : {ts rest : List Token} {s : List ℕ} (o : Option ℤ) → ts ≡ Token.number s ∷ rest → ((n : Num) → number_of s ≡ Some n → o ≡ as_i64 n)
     → OnSome o (is_some (number_of s) ≡ true) → IfSome o (λ z. (v : Data) × SpellsValue 0 ts v rest × (whole v ≡ Some z))

@@ -1,6 +1,6 @@
 //! The driver's actions in a scenario.
-ghost use Rattle.std.specs.Prelude.{◌≡◌, ◌≤◌, IfOk};
-ghost use Rattle.json_values.specs.Looking.{listed};
+ghost use Rattle.std.specs.Prelude.{◌≡◌, ◌≤◌, map, IfOk};
+ghost use Rattle.serde_json.specs.View.{view};
 ghost use Rattle.simulator.specs.Values.{within};
 ghost use Rattle.simulator.specs.Actions.{level, confirmed, acknowledged, lone_value, identity, entered_identity, entered_number, brakes, train, entered_train, chosen_level, confirmed_item, acknowledged_kind, bare, kind_reported, by_kind, action};
 
@@ -10,8 +10,8 @@ use brakes::{Brakes, Deceleration, Reaction};
 use driver::{
     Acknowledged, Action, ActionKind, Confirmed, DriverIdentity, RunningNumber, TrainData,
 };
-use json_values::JsonList;
 use mode_table::TrainLevel;
+use serde_json::Value;
 use units::{Length, Mph};
 use vars::{TrainCategory, Variable};
 
@@ -43,13 +43,13 @@ fn identity_of(text: &str) -> Result<Action, ScenarioFault>
 }
 
 #[tactic(auto, unfolding(crate::specs::Actions::entered_identity))]
-fn entered_identity(items: &JsonList) -> Result<Action, ScenarioFault>
-    ensures { result ≡ entered_identity (listed items.now) }
+fn entered_identity(items: &[Value]) -> Result<Action, ScenarioFault>
+    ensures { result ≡ entered_identity (map view items.now) }
 {
-    if !items.has_len(2) {
+    if items.len() != 2 {
         return Err(ScenarioFault::Shape);
     }
-    match items.at(1) {
+    match items.get(1) {
         Some(item) => identity_of(item.as_str().ok_or(ScenarioFault::Shape)?),
         None => Err(ScenarioFault::Shape),
     }
@@ -57,18 +57,18 @@ fn entered_identity(items: &JsonList) -> Result<Action, ScenarioFault>
 
 // The one whole number after the code.
 #[tactic(auto, unfolding(crate::specs::Actions::lone_value))]
-fn lone_value(items: &JsonList) -> Result<i64, ScenarioFault>
-    ensures { result ≡ lone_value (listed items.now) }
+fn lone_value(items: &[Value]) -> Result<i64, ScenarioFault>
+    ensures { result ≡ lone_value (map view items.now) }
 {
-    if !items.has_len(2) {
+    if items.len() != 2 {
         return Err(ScenarioFault::Shape);
     }
     whole_item(items, 1)
 }
 
 #[tactic(auto, unfolding(crate::specs::Actions::entered_number))]
-fn entered_number(items: &JsonList) -> Result<Action, ScenarioFault>
-    ensures { result ≡ entered_number (listed items.now) }
+fn entered_number(items: &[Value]) -> Result<Action, ScenarioFault>
+    ensures { result ≡ entered_number (map view items.now) }
 {
     let number = within(0, 99_999_999, lone_value(items)?)?;
     match RunningNumber::new(number as u32) {
@@ -131,17 +131,15 @@ fn train_of(cm: i64, mph: i64, rate: i64, time: i64, kind: i64) -> Result<Action
     let maximum = train_maximum(mph)?;
     let brakes = brakes_of(rate, time)?;
     let category = train_category(kind)?;
-    match TrainData::new(length, maximum, category, brakes) {
-        Some(train) => Ok(Action::EnterTrainData(train)),
-        None => unreachable!(),
-    }
+    let train = TrainData::new(length, maximum, category, brakes).unwrap();
+    Ok(Action::EnterTrainData(train))
 }
 
 #[tactic(auto, unfolding(crate::specs::Actions::entered_train))]
-fn entered_train(items: &JsonList) -> Result<Action, ScenarioFault>
-    ensures { result ≡ entered_train (listed items.now) }
+fn entered_train(items: &[Value]) -> Result<Action, ScenarioFault>
+    ensures { result ≡ entered_train (map view items.now) }
 {
-    if !items.has_len(6) {
+    if items.len() != 6 {
         return Err(ScenarioFault::Shape);
     }
     let cm = whole_item(items, 1)?;
@@ -153,24 +151,24 @@ fn entered_train(items: &JsonList) -> Result<Action, ScenarioFault>
 }
 
 #[tactic(auto, unfolding(crate::specs::Actions::chosen_level))]
-fn chosen_level(items: &JsonList) -> Result<Action, ScenarioFault>
-    ensures { result ≡ chosen_level (listed items.now) }
+fn chosen_level(items: &[Value]) -> Result<Action, ScenarioFault>
+    ensures { result ≡ chosen_level (map view items.now) }
 {
     let level = level_of(lone_value(items)?)?;
     Ok(Action::ChooseLevel(level))
 }
 
 #[tactic(auto, unfolding(crate::specs::Actions::confirmed_item))]
-fn confirmed_item(items: &JsonList) -> Result<Action, ScenarioFault>
-    ensures { result ≡ confirmed_item (listed items.now) }
+fn confirmed_item(items: &[Value]) -> Result<Action, ScenarioFault>
+    ensures { result ≡ confirmed_item (map view items.now) }
 {
     let item = confirmed_of(lone_value(items)?)?;
     Ok(Action::Confirm(item))
 }
 
 #[tactic(auto, unfolding(crate::specs::Actions::acknowledged_kind))]
-fn acknowledged_kind(items: &JsonList) -> Result<Action, ScenarioFault>
-    ensures { result ≡ acknowledged_kind (listed items.now) }
+fn acknowledged_kind(items: &[Value]) -> Result<Action, ScenarioFault>
+    ensures { result ≡ acknowledged_kind (map view items.now) }
 {
     let kind = acknowledged_of(lone_value(items)?)?;
     Ok(Action::Acknowledge(kind))
@@ -178,10 +176,10 @@ fn acknowledged_kind(items: &JsonList) -> Result<Action, ScenarioFault>
 
 // An action without values.
 #[tactic(auto, unfolding(crate::specs::Actions::bare))]
-fn bare(action: Action, items: &JsonList) -> Result<Action, ScenarioFault>
-    ensures { result ≡ bare action (listed items.now) }
+fn bare(action: Action, items: &[Value]) -> Result<Action, ScenarioFault>
+    ensures { result ≡ bare action (map view items.now) }
 {
-    if items.has_len(1) {
+    if items.len() == 1 {
         Ok(action)
     } else {
         Err(ScenarioFault::Shape)
@@ -199,8 +197,8 @@ fn kind_of(code: i64) -> Result<ActionKind, ScenarioFault>
 }
 
 #[tactic(auto, unfolding(crate::specs::Actions::by_kind))]
-fn by_kind(kind: ActionKind, items: &JsonList) -> Result<Action, ScenarioFault>
-    ensures { result ≡ by_kind kind (listed items.now) }
+fn by_kind(kind: ActionKind, items: &[Value]) -> Result<Action, ScenarioFault>
+    ensures { result ≡ by_kind kind (map view items.now) }
 {
     match kind {
         ActionKind::EnterIdentity => entered_identity(items),
@@ -219,8 +217,8 @@ fn by_kind(kind: ActionKind, items: &JsonList) -> Result<Action, ScenarioFault>
 
 /// The action that a code and its values report.
 #[tactic(auto, unfolding(crate::specs::Actions::action))]
-pub(crate) fn action_of(items: &JsonList) -> Result<Action, ScenarioFault>
-    ensures { result ≡ action (listed items.now) }
+pub(crate) fn action_of(items: &[Value]) -> Result<Action, ScenarioFault>
+    ensures { result ≡ action (map view items.now) }
 {
     let code = whole_item(items, 0)?;
     let kind = kind_of(code)?;

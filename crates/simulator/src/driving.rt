@@ -1,6 +1,5 @@
 //! How a course grows, step by step.
 ghost use Rattle.std.specs.Prelude.{◌≡◌, ◌+◌, ◌≤◌, ◌^◌, ℤ, pos, neg_ℤ, ◌≤ℤ◌, ◌<ℤ◌, ◌+ℤ◌, ◌-ℤ◌, OnOk, IfOk, All};
-ghost use Rattle.units.specs.Limits.{IsMovement};
 ghost use Rattle.events.specs.Limits.{most_pending};
 ghost use Rattle.simulator.specs.Numbers.{natural};
 ghost use Rattle.simulator.specs.Passing.{passed};
@@ -16,17 +15,6 @@ use units::{Movement, Mph, NoMemory};
 
 /// How far a reading moves at most, in centimetres.
 const LONGEST_READING: u64 = 10_000;
-
-/// A movement of one reading.
-fn movement(cm: i64) -> Movement
-    requires { IsMovement cm }
-    ensures { result ≡ cm }
-{
-    match Movement::new(cm) {
-        Some(movement) => movement,
-        None => unreachable!(),
-    }
-}
 
 /// How far it is to a place ahead.
 fn way(from: i128, to: i128) -> u64
@@ -102,12 +90,12 @@ impl Course {
         ensures ok { OnOk result (run_of self.new ≡ readings cm speed (run_of self.old)) }
     {
         for count in 0..cm / LONGEST_READING {
-            let movement = movement(10_000);
+            let movement = Movement::new(10_000).unwrap();
             self.accept(Input::Odometer(Reading { movement, speed }))?;
         }
         let rest = cm % LONGEST_READING;
         if rest != 0 {
-            let movement = movement(rest as i64);
+            let movement = Movement::new(rest as i64).unwrap();
             self.accept(Input::Odometer(Reading { movement, speed }))?;
         }
         Ok(())
@@ -166,7 +154,7 @@ impl Course {
             self.drive_over_all(track.ahead(self.front, cm as u32), speed)?;
             self.drive_to(place, speed)
         } else {
-            let movement = movement(cm);
+            let movement = Movement::new(cm).unwrap();
             self.accept(Input::Odometer(Reading { movement, speed }))?;
             self.front = place;
             Ok(())

@@ -1,51 +1,37 @@
 //! The groups of a scenario.
-ghost use Rattle.std.specs.Prelude.{◌≡◌, ◌⊎◌, ◌≤◌, ◌&&◌, nat_le, length, option_map, OnOk, IfErr};
-ghost use Rattle.json_values.specs.Looking.{reported, listed};
+ghost use Rattle.std.specs.Prelude.{◌≡◌, ◌⊎◌, ◌≤◌, length, map, option_map, OnOk, IfErr};
+ghost use Rattle.serde_json.specs.View.{view};
 ghost use Rattle.simulator.specs.Groups.{are_texts, laid_one, laid, group, groups, whole_at, list_at};
 
 use crate::ScenarioFault;
 use crate::balise::Balise;
 use crate::telegrams::bytes_of;
 use crate::values::within;
-use json_values::{JsonList, JsonValue};
+use json_values::{has_members, items_of};
+use serde_json::Value;
 use std::alloc::Global;
 
-fn whole_at(value: &JsonValue, key: &str) -> Option<i64>
-    ensures { result ≡ whole_at key.now (reported value.now) }
+fn whole_at(value: &Value, key: &str) -> Option<i64>
+    ensures { result ≡ whole_at key.now (view value.now) }
 {
-    match value.get(key) {
-        Some(value) => value.as_i64(),
-        None => None,
-    }
+    value.get(key)?.as_i64()
 }
 
-fn list_at<'t, 'a>(value: &JsonValue<'t, 'a>, key: &str) -> Option<JsonList<'t, 'a>>
-    ensures { option_map listed result ≡ list_at key.now (reported value.now) }
+fn list_at<'a>(value: &'a Value, key: &str) -> Option<&'a [Value]>
+    ensures { option_map (λ items. map view items.now) result ≡ list_at key.now (view value.now) }
 {
-    match value.get(key) {
-        Some(list) => list.into_list(),
-        None => None,
-    }
+    items_of(value.get(key)?)
 }
 
-fn are_texts(items: &JsonList) -> bool
-    ensures { result ≡ are_texts (listed items.now) }
+fn are_texts(items: &[Value]) -> bool
+    ensures { result ≡ are_texts (map view items.now) }
 {
-    let mut left = items.items();
-    while let Some((item, rest)) = left.split_first() {
+    for item in items {
         if !item.is_string() {
             return false;
         }
-        left = rest;
     }
     true
-}
-
-// Whether there are 1 to 8.
-fn are_one_to_eight(items: &JsonList) -> bool
-    ensures { result ≡ (nat_le 1 (length (listed items.now)) && nat_le (length (listed items.now)) 8) }
-{
-    !items.has_len(0) && items.is_within(8)
 }
 
 /// Lays a balise at a place.
@@ -53,12 +39,12 @@ fn are_one_to_eight(items: &JsonList) -> bool
 pub(crate) fn lay_one(
     alloc: Global,
     at: u64,
-    item: &JsonValue,
+    item: &Value,
     balises: &mut Vec<Balise>,
 ) -> Result<(), ScenarioFault>
-    ensures ok { OnOk result (laid_one at (reported item.now) balises.old.items ≡ Ok balises.new.items) }
+    ensures ok { OnOk result (laid_one at (view item.now) balises.old.items ≡ Ok balises.new.items) }
     ensures err { IfErr result (λ fault. (fault ≡ ScenarioFault.NoMemory)
-        ⊎ (laid_one at (reported item.now) balises.old.items ≡ Err fault)) }
+        ⊎ (laid_one at (view item.now) balises.old.items ≡ Err fault)) }
 {
     let text = item.as_str().ok_or(ScenarioFault::Shape)?;
     let bytes = bytes_of(alloc, text)?;
@@ -71,22 +57,20 @@ fn lay(
     alloc: Global,
     first: u64,
     apart: u64,
-    items: &JsonList,
+    items: &[Value],
     balises: &mut Vec<Balise>,
 ) -> Result<(), ScenarioFault>
-    requires few { length (listed items.now) ≤ 8 }
+    requires few { length items.now ≤ 8 }
     requires near { first ≤ 100_000_000 }
     requires close { apart ≤ 1_200 }
-    ensures ok { OnOk result (laid first apart (listed items.now) balises.old.items ≡ Ok balises.new.items) }
+    ensures ok { OnOk result (laid first apart (map view items.now) balises.old.items ≡ Ok balises.new.items) }
     ensures err { IfErr result (λ fault. (fault ≡ ScenarioFault.NoMemory)
-        ⊎ (laid first apart (listed items.now) balises.old.items ≡ Err fault)) }
+        ⊎ (laid first apart (map view items.now) balises.old.items ≡ Err fault)) }
 {
     let mut at = first;
-    let mut left = items.items();
-    while let Some((item, rest)) = left.split_first() {
-        lay_one(alloc, at, &item, balises)?;
+    for item in items {
+        lay_one(alloc, at, item, balises)?;
         at += apart;
-        left = rest;
     }
     Ok(())
 }
@@ -95,43 +79,39 @@ fn lay(
 #[tactic(auto, unfolding(crate::specs::Groups::group))]
 pub(crate) fn lay_group(
     alloc: Global,
-    value: &JsonValue,
+    value: &Value,
     balises: &mut Vec<Balise>,
 ) -> Result<(), ScenarioFault>
-    ensures ok { OnOk result (group (reported value.now) balises.old.items ≡ Ok balises.new.items) }
+    ensures ok { OnOk result (group (view value.now) balises.old.items ≡ Ok balises.new.items) }
     ensures err { IfErr result (λ fault. (fault ≡ ScenarioFault.NoMemory)
-        ⊎ (group (reported value.now) balises.old.items ≡ Err fault)) }
+        ⊎ (group (view value.now) balises.old.items ≡ Err fault)) }
 {
-    if !value.has_members(3) {
+    if !has_members(value, 3) {
         return Err(ScenarioFault::Shape);
     }
     let at = whole_at(value, "at").ok_or(ScenarioFault::Shape)?;
     let spacing = whole_at(value, "spacing").ok_or(ScenarioFault::Shape)?;
-    let Some(items) = list_at(value, "balises") else {
-        return Err(ScenarioFault::Shape);
-    };
-    if !are_one_to_eight(&items) || !are_texts(&items) {
+    let items = list_at(value, "balises").ok_or(ScenarioFault::Shape)?;
+    if items.is_empty() || items.len() > 8 || !are_texts(items) {
         return Err(ScenarioFault::Shape);
     }
     let first = within(1, 100_000_000, at)?;
     let apart = within(1, 1_200, spacing)?;
-    lay(alloc, first, apart, &items, balises)
+    lay(alloc, first, apart, items, balises)
 }
 
 /// Lays the balises of all groups, after those before them.
 pub(crate) fn lay_all(
     alloc: Global,
-    items: &JsonList,
+    items: &[Value],
     balises: &mut Vec<Balise>,
 ) -> Result<(), ScenarioFault>
-    ensures ok { OnOk result (groups (listed items.now) balises.old.items ≡ Ok balises.new.items) }
+    ensures ok { OnOk result (groups (map view items.now) balises.old.items ≡ Ok balises.new.items) }
     ensures err { IfErr result (λ fault. (fault ≡ ScenarioFault.NoMemory)
-        ⊎ (groups (listed items.now) balises.old.items ≡ Err fault)) }
+        ⊎ (groups (map view items.now) balises.old.items ≡ Err fault)) }
 {
-    let mut left = items.items();
-    while let Some((item, rest)) = left.split_first() {
-        lay_group(alloc, &item, balises)?;
-        left = rest;
+    for item in items {
+        lay_group(alloc, item, balises)?;
     }
     Ok(())
 }

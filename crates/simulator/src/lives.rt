@@ -1,7 +1,6 @@
 //! From the value of a scenario to the steps of a life.
-ghost use Rattle.std.specs.Prelude.{◌≡◌, ◌⊎◌, [], codes, pos, Some, IfOk, IfErr, OnOk, Ok, Err};
+ghost use Rattle.std.specs.Prelude.{◌≡◌, ◌⊎◌, [], map, codes, pos, Some, IfOk, IfErr, OnOk, Ok, Err};
 ghost use Rattle.serde_json.specs.View.{view};
-ghost use Rattle.json_values.specs.Looking.{reported, listed};
 ghost use Rattle.serde_json.specs.Find.{get};
 ghost use Rattle.simulator.specs.Course.{run_of};
 ghost use Rattle.simulator.specs.Passing.{passed};
@@ -9,23 +8,23 @@ ghost use Rattle.simulator.specs.Groups.{groups};
 ghost use Rattle.simulator.specs.Lives.{lived, steps_in, has_keys, cold_value, cold_of, items_at, life_in};
 
 use crate::ScenarioFault;
-use crate::asking::take_step;
+use crate::asking::step_of;
 use crate::driving::Course;
 use crate::groups::lay_all;
 use crate::track::Track;
 use crate::values::byte_of;
-use json_values::{JsonList, JsonValue};
+use json_values::{has_members, items_of};
 use mode_table::Cold;
 use serde_json::Value;
 use std::alloc::Global;
 use step_list::StepList;
 
 #[tactic(auto, unfolding(crate::specs::Lives::has_keys))]
-fn has_keys(value: &JsonValue) -> bool
-    ensures { result ≡ has_keys (reported value.now) }
+fn has_keys(value: &Value) -> bool
+    ensures { result ≡ has_keys (view value.now) }
 {
     let count = if value.get("cold").is_some() { 3 } else { 2 };
-    value.has_members(count) && value.get("groups").is_some() && value.get("steps").is_some()
+    has_members(value, count) && value.get("groups").is_some() && value.get("steps").is_some()
 }
 
 /// What a number says as the value of `cold`.
@@ -37,46 +36,38 @@ pub(crate) fn cold_value(number: i64) -> Result<Cold, ScenarioFault>
 
 /// What the value of `cold` says.
 #[tactic(auto, unfolding(crate::specs::Lives::cold_of))]
-pub(crate) fn cold_in(value: &JsonValue) -> Result<Cold, ScenarioFault>
-    ensures { result ≡ cold_of (Some (reported value.now)) }
+pub(crate) fn cold_in(value: &Value) -> Result<Cold, ScenarioFault>
+    ensures { result ≡ cold_of (Some (view value.now)) }
 {
     cold_value(value.as_i64().ok_or(ScenarioFault::Shape)?)
 }
 
 #[tactic(auto, unfolding(crate::specs::Lives::cold_of))]
-fn cold_of(value: &JsonValue) -> Result<Cold, ScenarioFault>
-    ensures { result ≡ cold_of (get (codes "cold") (reported value.now)) }
+fn cold_of(value: &Value) -> Result<Cold, ScenarioFault>
+    ensures { result ≡ cold_of (get (codes "cold") (view value.now)) }
 {
     match value.get("cold") {
-        Some(cold) => cold_in(&cold),
+        Some(cold) => cold_in(cold),
         None => Ok(Cold::Unknown),
     }
 }
 
 /// The items of the list at a key.
 #[tactic(auto, unfolding(crate::specs::Lives::items_at))]
-pub(crate) fn items_at<'t, 'a>(
-    value: &JsonValue<'t, 'a>,
-    key: &str,
-) -> Result<JsonList<'t, 'a>, ScenarioFault>
-    ensures ok { IfOk result (λ items. items_at key.now (reported value.now) ≡ Ok (listed items)) }
-    ensures err { IfErr result (λ fault. items_at key.now (reported value.now) ≡ Err fault) }
+pub(crate) fn items_at<'a>(value: &'a Value, key: &str) -> Result<&'a [Value], ScenarioFault>
+    ensures ok { IfOk result (λ items. items_at key.now (view value.now) ≡ Ok (map view items.now)) }
+    ensures err { IfErr result (λ fault. items_at key.now (view value.now) ≡ Err fault) }
 {
-    match value.get(key) {
-        Some(list) => match list.into_list() {
-            Some(items) => Ok(items),
-            None => Err(ScenarioFault::Shape),
-        },
-        None => Err(ScenarioFault::Shape),
-    }
+    let list = value.get(key).ok_or(ScenarioFault::Shape)?;
+    items_of(list).ok_or(ScenarioFault::Shape)
 }
 
 /// The track on which all groups are laid.
-pub(crate) fn track_of(alloc: Global, items: &JsonList) -> Result<Track, ScenarioFault>
-    ensures ok { IfOk result (λ track. (laid : _) × (groups (listed items.now) [] ≡ Ok laid)
+pub(crate) fn track_of(alloc: Global, items: &[Value]) -> Result<Track, ScenarioFault>
+    ensures ok { IfOk result (λ track. (laid : _) × (groups (map view items.now) [] ≡ Ok laid)
         × (passed track.balises.items ≡ passed laid)) }
     ensures err { IfErr result (λ fault. (fault ≡ ScenarioFault.NoMemory)
-        ⊎ (groups (listed items.now) [] ≡ Err fault)) }
+        ⊎ (groups (map view items.now) [] ≡ Err fault)) }
 {
     let mut balises = Vec::new(alloc);
     lay_all(alloc, items, &mut balises)?;
@@ -87,64 +78,49 @@ pub(crate) fn track_of(alloc: Global, items: &JsonList) -> Result<Track, Scenari
 fn live(
     alloc: Global,
     track: &Track,
-    items: &JsonList,
+    items: &[Value],
     course: &mut Course,
 ) -> Result<(), ScenarioFault>
     requires here { course.old.front ≡ pos 0 }
-    ensures ok { OnOk result (lived (passed track.now.balises.items) (listed items.now) (run_of course.old)
+    ensures ok { OnOk result (lived (passed track.now.balises.items) (map view items.now) (run_of course.old)
         ≡ Ok (run_of course.new)) }
     ensures err { IfErr result (λ fault. (fault ≡ ScenarioFault.NoMemory)
-        ⊎ (lived (passed track.now.balises.items) (listed items.now) (run_of course.old) ≡ Err fault)) }
+        ⊎ (lived (passed track.now.balises.items) (map view items.now) (run_of course.old) ≡ Err fault)) }
 {
-    let mut left = items.items();
-    let mut count: u64 = 0;
-    while let Some((item, rest)) = left.split_first() {
-        take_step(alloc, &item, track, course)?;
-        // No text has so many steps.
-        if count == u64::MAX {
-            return Err(ScenarioFault::NoMemory);
-        }
-        count += 1;
-        left = rest;
+    for item in items {
+        let step = step_of(alloc, item)?;
+        course.take(track, step)?;
     }
     Ok(())
 }
 
 #[tactic(auto, unfolding(crate::specs::Lives::steps_in))]
-fn steps_of(alloc: Global, track: &Track, items: &JsonList) -> Result<StepList, ScenarioFault>
-    ensures ok { IfOk result (λ steps. steps_in (passed track.now.balises.items) (listed items.now)
+fn steps_of(alloc: Global, track: &Track, items: &[Value]) -> Result<StepList, ScenarioFault>
+    ensures ok { IfOk result (λ steps. steps_in (passed track.now.balises.items) (map view items.now)
         ≡ Ok steps) }
     ensures err { IfErr result (λ fault. (fault ≡ ScenarioFault.NoMemory)
-        ⊎ (steps_in (passed track.now.balises.items) (listed items.now) ≡ Err fault)) }
+        ⊎ (steps_in (passed track.now.balises.items) (map view items.now) ≡ Err fault)) }
 {
     let mut course = Course::new(alloc);
     live(alloc, track, items, &mut course)?;
     Ok(course.end()?)
 }
 
-/// What `life_of` answers, of a value on a tape or in a tree.
+/// What the train knows of movements without power, and the steps of the life that a value asks for; or the value's
+/// first fault. The faults come in this order: the keys of the object; the value of `cold`; the groups; the steps; in
+/// each item its shape, and then its numbers and texts. NoMemory may come in the place of any of them.
 #[tactic(auto, unfolding(crate::specs::Lives::life_in))]
-pub(crate) fn life_in(alloc: Global, value: &JsonValue) -> Result<(Cold, StepList), ScenarioFault>
-    ensures ok { IfOk result (λ life. life_in (reported value.now) ≡ Ok (life.0, life.1)) }
-    ensures err { IfErr result (λ fault. (fault ≡ ScenarioFault.NoMemory) ⊎ (life_in (reported value.now) ≡ Err fault)) }
+pub fn life_of(alloc: Global, value: &Value) -> Result<(Cold, StepList), ScenarioFault>
+    ensures ok { IfOk result (λ life. life_in (view value.now) ≡ Ok (life.0, life.1)) }
+    ensures err { IfErr result (λ fault. (fault ≡ ScenarioFault.NoMemory) ⊎ (life_in (view value.now) ≡ Err fault)) }
 {
     if !has_keys(value) {
         return Err(ScenarioFault::Shape);
     }
     let cold = cold_of(value)?;
     let groups = items_at(value, "groups")?;
-    let track = track_of(alloc, &groups)?;
+    let track = track_of(alloc, groups)?;
     let items = items_at(value, "steps")?;
-    let steps = steps_of(alloc, &track, &items)?;
+    let steps = steps_of(alloc, &track, items)?;
     Ok((cold, steps))
-}
-
-/// What the train knows of movements without power, and the steps of the life that a value asks for; or the value's
-/// first fault. The faults come in this order: the keys of the object; the value of `cold`; the groups; the steps; in
-/// each item its shape, and then its numbers and texts. NoMemory may come in the place of any of them.
-pub fn life_of(alloc: Global, value: &Value) -> Result<(Cold, StepList), ScenarioFault>
-    ensures ok { IfOk result (λ life. life_in (view value.now) ≡ Ok (life.0, life.1)) }
-    ensures err { IfErr result (λ fault. (fault ≡ ScenarioFault.NoMemory) ⊎ (life_in (view value.now) ≡ Err fault)) }
-{
-    life_in(alloc, &JsonValue::Tree(value))
 }

@@ -8,13 +8,10 @@ ghost use Rattle.simulator.specs.Parts.{number_in};
 ghost use Rattle.simulator.specs.Steps.{step_of};
 
 use crate::ScenarioFault;
-use crate::asking::take_step;
-use crate::driving::Course;
+use crate::asking::step_of;
 use crate::groups::{lay_group, lay_one};
 use crate::lives::cold_in;
-use crate::track::Track;
 use crate::values::within;
-use json_values::JsonValue;
 use serde_json::Value;
 use std::alloc::Global;
 
@@ -22,7 +19,7 @@ use std::alloc::Global;
 pub fn fault_of_cold(value: &Value) -> Option<ScenarioFault>
     ensures { result ≡ result_err (cold_of (Some (view value.now))) }
 {
-    cold_in(&JsonValue::Tree(value)).err()
+    cold_in(value).err()
 }
 
 /// The fault of a group. NoMemory may come in its place.
@@ -30,7 +27,7 @@ pub fn fault_of_group(alloc: Global, value: &Value) -> Option<ScenarioFault>
     ensures { (result ≡ Some ScenarioFault.NoMemory) ⊎ (result ≡ result_err (group (view value.now) [])) }
 {
     let mut balises = Vec::new(alloc);
-    lay_group(alloc, &JsonValue::Tree(value), &mut balises).err()
+    lay_group(alloc, value, &mut balises).err()
 }
 
 /// The fault of a balise of a group. NoMemory may come in its place.
@@ -38,7 +35,7 @@ pub fn fault_of_balise(alloc: Global, value: &Value) -> Option<ScenarioFault>
     ensures { (result ≡ Some ScenarioFault.NoMemory) ⊎ (result ≡ result_err (laid_one 1 (view value.now) [])) }
 {
     let mut balises = Vec::new(alloc);
-    lay_one(alloc, 1, &JsonValue::Tree(value), &mut balises).err()
+    lay_one(alloc, 1, value, &mut balises).err()
 }
 
 fn number_in(low: u64, high: u64, value: &Value) -> Result<u64, ScenarioFault>
@@ -66,10 +63,5 @@ pub fn fault_of_spacing(value: &Value) -> Option<ScenarioFault>
 pub fn fault_of_step(alloc: Global, value: &Value) -> Option<ScenarioFault>
     ensures { (result ≡ Some ScenarioFault.NoMemory) ⊎ (result ≡ result_err (step_of (view value.now))) }
 {
-    let track = match Track::new(Vec::new(alloc)) {
-        Ok(track) => track,
-        Err(_) => return Some(ScenarioFault::NoMemory),
-    };
-    let mut course = Course::new(alloc);
-    take_step(alloc, &JsonValue::Tree(value), &track, &mut course).err()
+    step_of(alloc, value).err()
 }

@@ -1,13 +1,15 @@
 //! From the bytes of a file to the steps of a life.
 ghost use Rattle.std.specs.Prelude.{◌≡◌, ◌⊎◌, IfOk, IfErr};
-ghost use Rattle.simulator.specs.Scenarios.{Describes, FaultOf, DescribesEnds, EndsFault};
+ghost use Rattle.serde_json.specs.Data.{Data};
+ghost use Rattle.serde_json.specs.View.{view};
+ghost use Rattle.simulator.specs.Scenarios.{IsReading, Describes, FaultOf, DescribesEnds, EndsFault};
 
 use crate::fault::ScenarioFault;
-use crate::lives::life_in;
+use crate::lives::life_of;
 use crate::one_pass::life_by_tokens;
 use events::Step;
-use json_values::{JsonText, Scratch};
 use mode_table::Cold;
+use serde_json::Value;
 use std::alloc::Global;
 use step_list::StepList;
 
@@ -16,6 +18,19 @@ use step_list::StepList;
 pub struct Scenario {
     /// The bytes, of a JSON value in UTF-8.
     pub bytes: Vec<u8>,
+}
+
+// The JSON value of the scenario.
+fn value_of(alloc: Global, scenario: &Scenario) -> Result<Value, ScenarioFault>
+    ensures ok { IfOk result (λ value. IsReading scenario.now.bytes.items (view value)) }
+    ensures err { IfErr result (λ fault. (fault ≡ ScenarioFault.NoMemory)
+        ⊎ ((fault ≡ ScenarioFault.NotJson) × ((d : Data) → ¬ IsReading scenario.now.bytes.items d))) }
+{
+    match Value::from_slice(alloc, scenario.bytes.as_slice()) {
+        Ok(value) => Ok(value),
+        Err(error) if error.is_memory() => Err(ScenarioFault::NoMemory),
+        Err(_) => Err(ScenarioFault::NotJson),
+    }
 }
 
 /// What the train knows of movements without power, and the steps of the life that the scenario asks for; or its first
@@ -28,13 +43,7 @@ pub fn plan_of(alloc: Global, scenario: &Scenario) -> Result<(Cold, StepList), S
     if let Some(life) = life_by_tokens(alloc, scenario.bytes.as_slice()) {
         return Ok(life);
     }
-    let mut scratch = Scratch::new(alloc);
-    let text = match JsonText::read(alloc, scenario.bytes.as_slice(), &mut scratch) {
-        Ok(text) => text,
-        Err(error) if error.is_memory() => return Err(ScenarioFault::NoMemory),
-        Err(_) => return Err(ScenarioFault::NotJson),
-    };
-    life_in(alloc, &text.value())
+    life_of(alloc, &value_of(alloc, scenario)?)
 }
 
 /// The same as `plan_of`, with the steps as a list of their own.
@@ -53,11 +62,5 @@ pub fn ends_of(alloc: Global, scenario: &Scenario) -> Result<Vec<usize>, Scenari
     ensures ok { IfOk result (λ ends. DescribesEnds scenario.now.bytes.items ends.items) }
     ensures err { IfErr result (λ fault. (fault ≡ ScenarioFault.NoMemory) ⊎ EndsFault scenario.now.bytes.items fault) }
 {
-    let mut scratch = Scratch::new(alloc);
-    let text = match JsonText::read(alloc, scenario.bytes.as_slice(), &mut scratch) {
-        Ok(text) => text,
-        Err(error) if error.is_memory() => return Err(ScenarioFault::NoMemory),
-        Err(_) => return Err(ScenarioFault::NotJson),
-    };
-    crate::ends::ends_of(alloc, &text.value())
+    crate::ends::ends_of(alloc, &value_of(alloc, scenario)?)
 }

@@ -1,17 +1,17 @@
 //! Looking into a JSON value.
-ghost use Rattle.std.specs.Prelude.{◌≡◌, ◌≤◌, IfOk};
-ghost use Rattle.json_values.specs.Looking.{listed};
+ghost use Rattle.std.specs.Prelude.{◌≡◌, ◌≤◌, map, IfOk};
+ghost use Rattle.serde_json.specs.View.{view};
 ghost use Rattle.simulator.specs.Values.{whole_item, within};
 
 use crate::ScenarioFault;
-use json_values::JsonList;
+use serde_json::Value;
 
 /// The whole number at a place in a list.
 #[tactic(auto, unfolding(crate::specs::Values::whole_item))]
-pub(crate) fn whole_item(items: &JsonList, place: usize) -> Result<i64, ScenarioFault>
-    ensures { result ≡ whole_item (listed items.now) place }
+pub(crate) fn whole_item(items: &[Value], place: usize) -> Result<i64, ScenarioFault>
+    ensures { result ≡ whole_item (map view items.now) place }
 {
-    match items.at(place) {
+    match items.get(place) {
         Some(item) => item.as_i64().ok_or(ScenarioFault::Shape),
         None => Err(ScenarioFault::Shape),
     }

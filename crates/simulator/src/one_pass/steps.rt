@@ -14,7 +14,7 @@ ghost use Rattle.simulator.specs.declared.step_kinds.StepKind.{StepKind};
 ghost use Rattle.simulator.specs.declared.step_kinds.StepKind.TheVariants.{Drive, Happens, Flush};
 ghost use Rattle.events.specs.declared.input.Input.TheVariants.{Telegram, Clock, Driver};
 
-use crate::asking::driver_of;
+use crate::actions::action_of;
 use crate::distance::Distance;
 use crate::driving::Course;
 use crate::one_pass::tokens::{any_key, begin_array, end_array, end_object, number, text};
@@ -25,7 +25,7 @@ use crate::values::within;
 use driver::Action;
 use events::{Input, TelegramBytes};
 use json::{Reader, Token};
-use json_values::{JsonValue, digits};
+use json_values::digits;
 use serde_json::Value;
 use std::alloc::Global;
 use units::{LONGEST_LIFE, Mph, Ms};
@@ -106,8 +106,7 @@ fn action_in(alloc: Global, reader: &mut Reader<'_>) -> Option<Action>
     begin_array(reader)?;
     let values = values_of(alloc, reader)?;
     end_object(reader)?;
-    let list = Value::Array(values);
-    match driver_of(JsonValue::Tree(&list)) {
+    match action_of(values.as_slice()) {
         Ok(action) => Some(action),
         Err(_) => None,
     }

@@ -1,6 +1,8 @@
-use Rattle.std.proofs.Common.{◌≡◌, ℕ, List, [], ◌∷◌, ◌++◌, length, sym, ap, ◌∙◌, arith}
+use Rattle.std.proofs.Common.{◌≡◌, ℕ, List, [], ◌∷◌, ◌++◌, ◌+◌, length, map, drop, sym, ap, ◌∙◌, arith}
 use Rattle.std.proofs.lemmas.Int.{ints}
-use Rattle.json_values.specs.Looking.{reported, reported_items}
+use Rattle.std.proofs.lemmas.List.{at_drop_more}
+use Rattle.serde_json.specs.View.{view}
+use Rattle.serde_json.specs.declared.value.Value.{Value}
 use Rattle.simulator.specs.Values.{◌>>=◌}
 use Rattle.simulator.specs.Passing.{passed}
 use Rattle.simulator.specs.Course.{run_of, taken}
@@ -8,26 +10,23 @@ use Rattle.simulator.specs.Steps.{step_of}
 use Rattle.simulator.specs.Lives.{ends_by}
 use Rattle.simulator.proofs.ends.count.Goals as goal
 
-pub take_step-requires-clause-low : goal.take_step-requires-clause-low
-take_step-requires-clause-low c = omega (arith, ints, c.loop-item.invariant.low, c.loop-item.invariant.fits)
-
-pub take_step-requires-clause-high : goal.take_step-requires-clause-high
-take_step-requires-clause-high c = omega (arith, ints, c.loop-item.invariant.high, c.loop-item.invariant.fits)
-
 pub loop-item-preserved : goal.loop-item-preserved
 loop-item-preserved c =
     let ahead = passed c.args.track.now.balises.items in
     let run = run_of c.loop-item.course in
     let so_far = c.loop-item.ends.items in
-    let more : ends_by ahead (reported_items c.loop-item.left) run so_far
-    ≡ (step_of (reported c.in-Some.item) >>= λ step. ends_by ahead (reported_items c.in-Some.rest) (taken ahead step run) (so_far ++ length (taken ahead step run).steps ∷ [])) =
-    ap (λ ds. ends_by ahead ds run so_far) c.in-Some.ensures in
-    let asked = c.in_ok-take_step.ensures.ok in
+    let items = c.args.items.now in
+    let i = c.loop-item.item-index in
+    let item = c.item-item.result in
+    let rest = drop (i + 1) items in
+    let more : ends_by ahead (map view (drop i items)) run so_far
+    ≡ (step_of (view item) >>= λ step. ends_by ahead (map view rest) (taken ahead step run) (so_far ++ length (taken ahead step run).steps ∷ [])) =
+    at_drop_more (λ (vs : List Value). ends_by ahead (map view vs) run so_far) items i item c.loop-item-test.true ∙ ap (λ (v : Value). ends_by ahead (view v ∷ map view rest) run so_far) (sym c.item-item.is) in
+    let noted : c.push.new.self.items ≡ so_far ++ length c.take.new.self.steps ∷ [] = c.in_ok-push.ensures.items ∙ ap (λ (n : ℕ). so_far ++ n ∷ []) c.len.ensures in
     record {
-      fits = grind arith;
       so_far =
-          ap (λ (ends : List ℕ). ends_by ahead (reported_items c.in-Some.rest) (run_of c.take_step.new.course) ends) c.in_ok-note.ensures.ok
-          ∙ sym (rw (asked.1, ← asked.2) at more) ∙ c.loop-item.invariant.so_far;
-      low = omega (arith, ints, c.loop-item.invariant.low, c.in_ok-take_step.ensures.least);
-      high = omega (arith, ints, c.loop-item.invariant.high, c.in_ok-take_step.ensures.most);
+          ap (λ (ends : List ℕ). ends_by ahead (map view rest) (run_of c.take.new.self) ends) noted
+          ∙ sym (rw (c.in_ok-step.ensures.ok, ← c.in_ok-take.ensures.ok) at more) ∙ c.loop-item.invariant.so_far;
+      low = omega (arith, ints, c.loop-item.invariant.low, c.in_ok-take.ensures.least);
+      high = omega (arith, ints, c.loop-item.invariant.high, c.in_ok-take.ensures.most);
     }

@@ -1,5 +1,5 @@
-use Rattle.std.proofs.Common.{◌≡◌, ◌*◌, pos, neg_ℤ, ◌≤ℤ◌, ◌≤◌, length}
-use Rattle.json_values.specs.Looking.{reported_items, listed}
+use Rattle.std.proofs.Common.{◌≡◌, ◌*◌, pos, neg_ℤ, ◌≤ℤ◌, map, drop}
+use Rattle.serde_json.specs.View.{view}
 use Rattle.simulator.specs.Passing.{passed}
 use Rattle.simulator.specs.Course.{run_of}
 use Rattle.simulator.specs.Lives.{ends_by}
@@ -7,11 +7,7 @@ use Rattle.simulator.proofs.ends.count.Given as goal
 
 abbrev pub invariant-loop-item : goal.invariant-loop-item
 invariant-loop-item l = record {
-  fits : l.taken ≤ 18_446_744_073_709_551_615;
-  so_far : ends_by (passed l.track.balises.items) (reported_items l.left) (run_of l.course) l.ends.items ≡ ends_by (passed l.track.balises.items) (listed l.items) (run_of l.fn.course) l.fn.ends.items;
-  low : neg_ℤ (pos (1_000_000 * l.taken)) ≤ℤ l.course.front;
-  high : l.course.front ≤ℤ pos (1_000_000 * l.taken);
+  so_far : ends_by (passed l.track.balises.items) (map view (drop l.item-index l.items)) (run_of l.course) l.ends.items ≡ ends_by (passed l.track.balises.items) (map view l.items) (run_of l.fn.course) l.fn.ends.items;
+  low : neg_ℤ (pos (1_000_000 * l.item-index)) ≤ℤ l.course.front;
+  high : l.course.front ≤ℤ pos (1_000_000 * l.item-index);
 }
-
-abbrev pub decreases-loop-item : goal.decreases-loop-item
-decreases-loop-item l = length (reported_items l.left)

@@ -1,10 +1,7 @@
-use Rattle.std.proofs.Common.{◌≡◌, length}
-use Rattle.json_values.specs.Looking.{reported_items, listed}
+use Rattle.std.proofs.Common.{◌≡◌, map, drop}
+use Rattle.serde_json.specs.View.{view}
 use Rattle.simulator.specs.Groups.{groups}
 use Rattle.simulator.proofs.groups.lay_all.Given as goal
 
 abbrev pub invariant-loop-item : goal.invariant-loop-item
-invariant-loop-item l = groups (reported_items l.left) l.balises.items ≡ groups (listed l.items) l.fn.balises.items
-
-abbrev pub decreases-loop-item : goal.decreases-loop-item
-decreases-loop-item l = length (reported_items l.left)
+invariant-loop-item l = groups (map view (drop l.item-index l.items)) l.balises.items ≡ groups (map view l.items) l.fn.balises.items

@@ -1,7 +1,7 @@
 //! Which steps of a life come from which step of a scenario.
-ghost use Rattle.std.specs.Prelude.{◌≡◌, ◌⊎◌, [], ◌∷◌, ◌++◌, length, map, codes, pos, IfOk, IfErr, OnOk, Ok, Err};
+ghost use Rattle.std.specs.Prelude.{◌≡◌, ◌⊎◌, [], map, codes, IfOk, IfErr, Ok, Err};
 ghost use Rattle.serde_json.specs.View.{view};
-ghost use Rattle.simulator.specs.Course.{run_of, start};
+ghost use Rattle.simulator.specs.Course.{start};
 ghost use Rattle.simulator.specs.Passing.{passed};
 ghost use Rattle.simulator.specs.Lives.{ends_by, ends_in};
 
@@ -13,28 +13,7 @@ use crate::track::Track;
 use serde_json::Value;
 use std::alloc::Global;
 
-// Takes all steps, and counts after each those that the life has so far.
-fn count(
-    alloc: Global,
-    track: &Track,
-    items: &[Value],
-    course: &mut Course,
-    ends: &mut Vec<usize>,
-) -> Result<(), ScenarioFault>
-    requires here { course.old.front ≡ pos 0 }
-    ensures ok { OnOk result (ends_by (passed track.now.balises.items) (map view items.now) (run_of course.old) ends.old.items
-        ≡ Ok ends.new.items) }
-    ensures err { IfErr result (λ fault. (fault ≡ ScenarioFault.NoMemory)
-        ⊎ (ends_by (passed track.now.balises.items) (map view items.now) (run_of course.old) ends.old.items ≡ Err fault)) }
-{
-    for item in items {
-        let step = step_of(alloc, item)?;
-        course.take(track, step)?;
-        ends.push(course.steps.len())?;
-    }
-    Ok(())
-}
-
+// After each step, how many steps the life has so far.
 fn ends_by(alloc: Global, track: &Track, items: &[Value]) -> Result<Vec<usize>, ScenarioFault>
     ensures ok { IfOk result (λ ends. ends_by (passed track.now.balises.items) (map view items.now) start []
         ≡ Ok ends.items) }
@@ -43,7 +22,11 @@ fn ends_by(alloc: Global, track: &Track, items: &[Value]) -> Result<Vec<usize>, 
 {
     let mut course = Course::new(alloc);
     let mut ends = Vec::new(alloc);
-    count(alloc, track, items, &mut course, &mut ends)?;
+    for item in items {
+        let step = step_of(alloc, item)?;
+        course.take(track, step)?;
+        ends.push(course.steps.len())?;
+    }
     Ok(ends)
 }
 

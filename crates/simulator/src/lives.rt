@@ -1,11 +1,10 @@
 //! From the value of a scenario to the steps of a life.
-ghost use Rattle.std.specs.Prelude.{◌≡◌, ◌⊎◌, [], map, codes, pos, Some, IfOk, IfErr, OnOk, Ok, Err};
+ghost use Rattle.std.specs.Prelude.{◌≡◌, ◌⊎◌, [], map, codes, Some, IfOk, IfErr, Ok, Err};
 ghost use Rattle.serde_json.specs.View.{view};
 ghost use Rattle.serde_json.specs.Find.{get};
-ghost use Rattle.simulator.specs.Course.{run_of};
 ghost use Rattle.simulator.specs.Passing.{passed};
 ghost use Rattle.simulator.specs.Groups.{groups};
-ghost use Rattle.simulator.specs.Lives.{lived, steps_in, has_keys, cold_value, cold_of, items_at, life_in};
+ghost use Rattle.simulator.specs.Lives.{steps_in, has_keys, cold_value, cold_of, items_at, life_in};
 
 use crate::ScenarioFault;
 use crate::asking::step_of;
@@ -74,26 +73,6 @@ pub(crate) fn track_of(alloc: Global, items: &[Value]) -> Result<Track, Scenario
     Ok(Track::new(balises)?)
 }
 
-// Takes all steps.
-fn live(
-    alloc: Global,
-    track: &Track,
-    items: &[Value],
-    course: &mut Course,
-) -> Result<(), ScenarioFault>
-    requires here { course.old.front ≡ pos 0 }
-    ensures ok { OnOk result (lived (passed track.now.balises.items) (map view items.now) (run_of course.old)
-        ≡ Ok (run_of course.new)) }
-    ensures err { IfErr result (λ fault. (fault ≡ ScenarioFault.NoMemory)
-        ⊎ (lived (passed track.now.balises.items) (map view items.now) (run_of course.old) ≡ Err fault)) }
-{
-    for item in items {
-        let step = step_of(alloc, item)?;
-        course.take(track, step)?;
-    }
-    Ok(())
-}
-
 #[tactic(auto, unfolding(crate::specs::Lives::steps_in))]
 fn steps_of(alloc: Global, track: &Track, items: &[Value]) -> Result<StepList, ScenarioFault>
     ensures ok { IfOk result (λ steps. steps_in (passed track.now.balises.items) (map view items.now)
@@ -102,7 +81,10 @@ fn steps_of(alloc: Global, track: &Track, items: &[Value]) -> Result<StepList, S
         ⊎ (steps_in (passed track.now.balises.items) (map view items.now) ≡ Err fault)) }
 {
     let mut course = Course::new(alloc);
-    live(alloc, track, items, &mut course)?;
+    for item in items {
+        let step = step_of(alloc, item)?;
+        course.take(track, step)?;
+    }
     Ok(course.end()?)
 }
 

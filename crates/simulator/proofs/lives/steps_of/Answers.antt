@@ -8,7 +8,7 @@ use Rattle.simulator.specs.Passing.{passed}
 use Rattle.simulator.specs.Course.{run_of, taken}
 use Rattle.simulator.specs.Steps.{step_of}
 use Rattle.simulator.specs.Lives.{lived}
-use Rattle.simulator.proofs.lives.live.Goals as goal
+use Rattle.simulator.proofs.lives.steps_of.Goals as goal
 
 pub loop-item-preserved : goal.loop-item-preserved
 loop-item-preserved c =

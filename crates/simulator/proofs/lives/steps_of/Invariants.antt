@@ -1,13 +1,13 @@
 use Rattle.std.proofs.Common.{◌≡◌, ◌*◌, pos, neg_ℤ, ◌≤ℤ◌, map, drop}
 use Rattle.serde_json.specs.View.{view}
 use Rattle.simulator.specs.Passing.{passed}
-use Rattle.simulator.specs.Course.{run_of}
+use Rattle.simulator.specs.Course.{run_of, start}
 use Rattle.simulator.specs.Lives.{lived}
-use Rattle.simulator.proofs.lives.live.Given as goal
+use Rattle.simulator.proofs.lives.steps_of.Given as goal
 
 abbrev pub invariant-loop-item : goal.invariant-loop-item
 invariant-loop-item l = record {
-  so_far : lived (passed l.track.balises.items) (map view (drop l.item-index l.items)) (run_of l.course) ≡ lived (passed l.track.balises.items) (map view l.items) (run_of l.fn.course);
+  so_far : lived (passed l.track.balises.items) (map view (drop l.item-index l.items)) (run_of l.course) ≡ lived (passed l.track.balises.items) (map view l.items) start;
   low : neg_ℤ (pos (1_000_000 * l.item-index)) ≤ℤ l.course.front;
   high : l.course.front ≤ℤ pos (1_000_000 * l.item-index);
 }

@@ -1,20 +1,32 @@
 -- What a power-up promises, put together.
-use Rattle.std.proofs.Common.{◌≡◌, ◌⊎◌, ℕ, ◌+◌, ◌%◌, ◌^◌, Bool, false, List, IsTrue, ◌∙◌, subst}
-use Rattle.std.specs.Prelude.{if◌then◌else◌, Result, Err, IfErr, OnOk}
+use Rattle.std.proofs.Common.{◌≡◌, ◌⊎◌, inl, inr, ℕ, ℤ, ◌+◌, ◌%◌, ◌^◌, ◌<◌, ◌≤◌, Bool, false, List, [], ◌∷◌, Option, IsTrue, ◌∙◌, refl, subst}
+use Rattle.std.specs.Prelude.{if◌then◌else◌, Result, Ok, Err, IfErr, OnOk}
+use Rattle.blocks.specs.Heads.{last_number}
 use Rattle.disk.specs.State.{State, now, contents_of, Counted, IsImage, AtEachMoment}
 use Rattle.events.specs.declared.input.Event.{Event}
+use Rattle.events.specs.declared.input.Event.TheVariants.{PowerUp}
+use Rattle.journal.specs.JournalState.{JournalState}
+use Rattle.journal.specs.Journals.{IsOpen}
+use Rattle.journal.specs.declared.opening.Found.{Found}
+use Rattle.kernel.specs.StandsFor.{Knowledge}
 use Rattle.mode_table.specs.declared.statuses.Cold.{Cold}
 use Rattle.ring.specs.Account.{Account}
 use Rattle.ring.specs.Slots.{StandsFor}
-use Rattle.unit_start.specs.Answers.{is_device, is_met}
-use Rattle.unit_start.specs.Events.{account_of}
-use Rattle.unit_start.specs.Lives.{IsReady, IsOpenRefusal, HasNoCause}
-use Rattle.unit_start.specs.PowersUp.{IsAnswerTo, Continues, PowersUp}
-use Rattle.unit_start.specs.UnitState.{PartsState}
+use Rattle.speed_profile.specs.declared.reported.CategorySpeeds.{CategorySpeeds}
+use Rattle.track_store.specs.Segments.{Segmented}
+use Rattle.unit_start.specs.Answers.{is_device, is_met, is_worn}
+use Rattle.unit_start.specs.Events.{account_of, record_of, Knows}
+use Rattle.unit_start.specs.Lives.{IsRecordedCold, IsReady, Opens, IsFoundIn, IsOpenRefusal, HasNoCause}
+use Rattle.unit_start.specs.PowersUp.{parts_after, IsAnswerTo, Continues, PowersUp}
+use Rattle.unit_start.specs.UnitState.{PartsState, initial}
+use Rattle.unit_start.specs.Written.{HasNewest}
 use Rattle.unit_start.specs.declared.errors.OpenError.{OpenError}
 use Rattle.unit_start.specs.declared.errors.OpenError.TheVariants.{NoMemory}
+use Rattle.unit_start.proofs.Fresh.{fresh}
+use Rattle.unit_start.proofs.Greatest.{no_cause}
 use Rattle.unit_start.proofs.InParts.{exact_or_memory}
-use Rattle.unit_start.proofs.Opening.{settles, opens_found}
+use Rattle.unit_start.proofs.Lists.{length_records}
+use Rattle.unit_start.proofs.Opening.{worn_as, settles, opens_found}
 
 -- calls after others that didn't fail
 pub counted_on : (failed : Bool) (old mid new : State) → Counted false old mid → Counted failed mid new → Counted failed old new
@@ -68,3 +80,42 @@ refused_unwritten cold before after e counted run why met =
       up = λ whole_from durable accepted honest ready.
           unwritten whole_from durable accepted cold before after e ready (run honest) counted.sectors (λ reported stands. met reported honest stands);
     }
+
+-- the answers of a power-up that was put, or refused by the device or for want of a number
+pub answers_put : {T : Type 0} (sectors : ℕ) (image : ℕ → List ℕ) (old : JournalState) (found : Option Found) → IsFoundIn sectors image old found → 2 ≤ old.slots → (new : JournalState) (state : Knowledge (Segmented ℤ) (Segmented CategorySpeeds))
+    → (r : Result T OpenError) → IfErr r (λ e. IsTrue (is_met e)) → IfErr r (λ e. IsTrue (is_worn e) → last_number ≤ old.newest) → OnOk r (old.newest < last_number) → IsAnswerTo sectors image (parts_after r new state)
+answers_put sectors image old found so two new state (Ok done) met worn space =
+    let r : Result PartsState OpenError = Ok (record { journal = new; life = initial state new.events }) in
+    answer_to sectors image r tt (no_cause sectors old.slots old.newest image found so.formatted.size so.greatest so.head two so.formatted space)
+answers_put sectors image old found so two new state (Err e) met worn space =
+    let r : Result PartsState OpenError = Err e in
+    answer_to sectors image r (inr (worn_as sectors old.slots old.newest image found so.formatted so.greatest so.head e met worn)) tt
+
+-- .. and what goes on
+pub continues_put : {T : Type 0} (whole_from : ℕ) (durable accepted found : List Event) (cold recorded_cold : Cold) (before after : State) (journal : JournalState) (state : Knowledge (Segmented ℤ) (Segmented CategorySpeeds))
+    → Opens whole_from durable accepted found cold recorded_cold before after → IsRecordedCold before.sectors (contents_of before) cold recorded_cold → Knows state (PowerUp recorded_cold ∷ found)
+    → (r : Result T OpenError) → IfErr r (λ e. IsTrue (is_met e))
+    → OnOk r (IsOpen journal (account_of whole_from (PowerUp recorded_cold ∷ found)) after × HasNewest after.sectors (record_of found (PowerUp recorded_cold) ∷ []) (PowerUp recorded_cold ∷ found) (contents_of after))
+    → Continues whole_from durable accepted cold before after (parts_after r journal state)
+continues_put whole_from durable accepted found cold recorded_cold before after journal state opens recorded stands (Ok done) met put =
+    let events : List Event = PowerUp recorded_cold ∷ found in
+    record {
+      found = found;
+      power_up_cold = recorded_cold;
+      opens = opens;
+      opened = put.0;
+      ahead = fresh events (initial state journal.events) (put.0.events ∙ length_records events) stands refl refl refl;
+      last = put.1;
+      recorded = recorded;
+      met = tt;
+    }
+continues_put whole_from durable accepted found cold recorded_cold before after journal state opens recorded stands (Err e) met put = record {
+  found = found;
+  power_up_cold = recorded_cold;
+  opens = opens;
+  opened = tt;
+  ahead = tt;
+  last = tt;
+  recorded = tt;
+  met = inl met;
+}

@@ -2,13 +2,17 @@
 -- oldest first.
 
 -- Taken for granted: of images it speaks where the disk is honest.
-use Rattle.std.specs.Prelude.{◌≡◌, ◌⊎◌, ℕ, ◌<◌, [], ◌∷◌, false, List, IsTrue, Result, Ok, Err, IfOk, IfErr, OnOk, MatchResult}
+use Rattle.std.specs.Prelude.{◌≡◌, ◌⊎◌, ℕ, ℤ, ◌<◌, [], ◌∷◌, false, List, IsTrue, Result, Ok, Err, IfOk, IfErr, OnOk, MatchResult}
 use Rattle.blocks.specs.FirstSector.{sectors_of}
 use Rattle.disk.specs.State.{State, now, contents_of, Counted, IsImage, AtEachMoment}
 use Rattle.events.specs.declared.input.Event.{Event}
 use Rattle.events.specs.declared.input.Event.TheVariants.{PowerUp}
+use Rattle.journal.specs.JournalState.{JournalState}
 use Rattle.journal.specs.Journals.{IsOpen}
+use Rattle.kernel.specs.StandsFor.{Knowledge}
 use Rattle.mode_table.specs.declared.statuses.Cold.{Cold}
+use Rattle.speed_profile.specs.declared.reported.CategorySpeeds.{CategorySpeeds}
+use Rattle.track_store.specs.Segments.{Segmented}
 use Rattle.unit_start.specs.Answers.{open_failed, is_device, is_met}
 use Rattle.unit_start.specs.Events.{account_of, record_of, IsAhead}
 use Rattle.unit_start.specs.Lives.{IsRecordedCold, IsReady, Opens, IsOpenRefusal, HasNoCause, IsNextNumber}
@@ -16,12 +20,11 @@ use Rattle.unit_start.specs.UnitState.{PartsState, initial}
 use Rattle.unit_start.specs.Written.{HasNewest}
 use Rattle.unit_start.specs.declared.errors.OpenError.{OpenError}
 use Rattle.unit_start.specs.declared.errors.OpenError.TheVariants.{DeviceFault, NoMemory}
-use Rattle.unit_start.specs.declared.starting.Started.{Started}
 
--- what `start` answers, seen as a unit without its disk
-abbrev pub started_as : Result Started OpenError → Result PartsState OpenError
-started_as (Ok started) = Ok (record { journal = started.journal; life = initial started.state started.journal.events })
-started_as (Err e) = Err e
+-- what a power-up leaves in the places of journal and state, seen as a unit without its disk
+abbrev pub parts_after : {T : Type 0} → Result T OpenError → JournalState → Knowledge (Segmented ℤ) (Segmented CategorySpeeds) → Result PartsState OpenError
+parts_after (Ok done) journal state = Ok (record { journal = journal; life = initial state journal.events })
+parts_after (Err e) journal state = Err e
 
 -- nothing is pending, there was no moment yet, and no flush failed
 abbrev pub IsFresh : PartsState → Type 0

@@ -9,4 +9,4 @@ mod starting;
 pub use apart::UnitParts;
 pub use errors::OpenError;
 pub use records::{kept_after, no_moment, place_after, power_up_record, recorded};
-pub use starting::{Started, refused, start};
+pub use starting::{cold_of, power_up_after, refused, state_before};

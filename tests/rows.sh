@@ -37,7 +37,7 @@ for name in "${modules[@]}"; do
     python3 "$name.py" --ask "$made/cases" || exit 1
 done
 ./tried "$made/cases" "$made/answers" || exit 1
-rows test_decode 291
+rows test_decode 293
 rows test_parts 2758
 rows test_modes 2613
 rows test_disk 502

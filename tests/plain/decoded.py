@@ -14,6 +14,9 @@ SPARE = {"M_DUP": 2, "Q_DIR": 2, "Q_SCALE": 2, "Q_LINKREACTION": 2, "M_LEVELTR":
 GREATEST_SPEED = 120
 SPECIAL_SPEEDS = {"V_RELEASEDP": (126, 127), "V_RELEASEOL": (126, 127), "V_STATIC": (127,), "V_MAMODE": (127,)}
 
+# The differences of all steps of a packet 27 together.
+MOST_DIFFERENCES = 70
+
 # The one number that a field of the header may have.
 REQUIRED = {"Q_UPDOWN": (1, "NotUplink"), "M_VERSION": (16, "WrongVersion"), "Q_MEDIA": (0, "NotBalise")}
 HEADER = "Q_UPDOWN M_VERSION Q_MEDIA N_PIG N_TOTAL M_DUP M_MCOUNT NID_C NID_BG Q_LINK"
@@ -93,7 +96,10 @@ def authority(fields):
 
 def static_speed(fields):
     fields.all("D_STATIC V_STATIC Q_FRONT")
-    for _ in range(fields.take("N_ITER")):
+    count = fields.take("N_ITER")
+    if sum(name == "NC_DIFF" for name, _ in fields.taken) + count > MOST_DIFFERENCES:
+        raise Fault("OutOfRange")
+    for _ in range(count):
         fields.all("NC_DIFF V_DIFF")
 
 

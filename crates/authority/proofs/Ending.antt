@@ -53,7 +53,7 @@ by_is : (fact : Fact) (now : ℕ) (seen : List Sight) (place : Option ℤ) → e
 by_is fact now seen None = reported_is fact now seen
 by_is fact now seen (Some place) = refl
 
-end_is : (fact : Fact) (now : ℕ) (seen : List Sight) → end_in now (stored_of fact seen) ≡ end_now fact now seen
+pub end_is : (fact : Fact) (now : ℕ) (seen : List Sight) → end_in now (stored_of fact seen) ≡ end_now fact now seen
 end_is fact now seen =
     ap (end_by_stored now (stored_of fact seen)) (taken_is fact now seen) ∙ by_is fact now seen (taken_back fact now seen)
 

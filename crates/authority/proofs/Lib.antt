@@ -7,3 +7,4 @@ pub mod RunningOut
 pub mod Forward
 pub mod Forgetting
 pub mod Nearest
+pub mod Untimed

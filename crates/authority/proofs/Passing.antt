@@ -37,7 +37,7 @@ map_more : {X Y : Type 0} (f g : X → Y) (h : Y → Y) → ((x : X) → f x ≡
 map_more f g h e None = refl
 map_more f g h e (Some x) = ap Some (e x)
 
-stored_more : (fact : Fact) (sight : Sight) (seen : List Sight) →
+pub stored_more : (fact : Fact) (sight : Sight) (seen : List Sight) →
     stored_of fact (sight ∷ seen) ≡ passed_stored sight.moment sight.train (stored_of fact seen)
 stored_more fact sight seen =
     let sections = unstopped_more fact.moment sight seen (timed_sections fact) in

@@ -4,4 +4,5 @@ pub mod Track
 pub mod Authority
 pub mod Known
 pub mod Steps
+pub mod Untimed
 pub mod Laws

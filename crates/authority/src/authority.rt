@@ -1,9 +1,10 @@
 //! The movement authority in a life: it is accepted, its timers run, and it says its end.
-ghost use Rattle.std.specs.Prelude.{◌≡◌, List, [], ◌∷◌, is_some};
+ghost use Rattle.std.specs.Prelude.{◌≡◌, List, [], ◌∷◌, is_some, IsTrue};
 ghost use Rattle.authority.specs.Entries.{AuthorityEntry, fact_of, accepted};
 ghost use Rattle.authority.specs.Entries.AuthorityEntry.{Ticked, Accepted, Passed, Cleared};
 ghost use Rattle.authority.specs.Authority.{end_of, main_speed_of};
 ghost use Rattle.authority.specs.Known.{known};
+ghost use Rattle.authority.specs.Untimed.{IsUntimed};
 
 use crate::accepting::store;
 use crate::answers::End;
@@ -55,8 +56,9 @@ impl Authority {
 
     /// Moves the clock to a moment of the life, in milliseconds. The caller owes moments that don't fall.
     pub fn tick(&mut self, moment: Ms)
-        ensures { (entries : List AuthorityEntry) → self.old ≡ known entries
+        ensures stands { (entries : List AuthorityEntry) → self.old ≡ known entries
             → self.new ≡ known (Ticked moment ∷ entries) }
+        ensures kept { self.new.stored ≡ self.old.stored }
     {
         self.moment = moment;
     }
@@ -106,6 +108,17 @@ impl Authority {
         ensures { (entries : List AuthorityEntry) → self.now ≡ known entries → result ≡ is_some (accepted entries) }
     {
         self.stored.is_some()
+    }
+
+    /// Whether no time of the authority runs: none is stored, or its end stays the same at every moment and wherever
+    /// the train is (3.8.3, 3.8.4).
+    pub fn is_untimed(&self) -> bool
+        ensures { IsTrue result → IsUntimed self.now.stored }
+    {
+        match &self.stored {
+            None => true,
+            Some(stored) => stored.has_no_time(),
+        }
     }
 
     /// An equal value.

@@ -1,6 +1,8 @@
 //! The stored authority: what the front does to its timers, and its end at a moment.
-ghost use Rattle.std.specs.Prelude.{◌≡◌, filter, not, if◌then◌else◌, option_map};
+ghost use Rattle.std.specs.Prelude.{◌≡◌, ◌⊎◌, [], None, filter, not, if◌then◌else◌, option_map, IsTrue};
 ghost use Rattle.authority.specs.Steps.{stops_at, passed_timer, passed_overlap, passed_stored, first_over, is_over_in, taken_back_in, point_in, reported_in, end_in, speed_in};
+ghost use Rattle.authority.specs.Timers.{never};
+ghost use Rattle.authority.specs.Untimed.{HasNoTime};
 
 use crate::answers::{End, Release};
 use crate::timers::{PlaceTimer, TimedSection, is_over};
@@ -80,10 +82,38 @@ impl Stored {
     pub fn pass(&mut self, now: Ms, train: &Stretch)
         ensures { self.new ≡ passed_stored now train.now self.old }
     {
+        if self.has_no_timer() {
+            return;
+        }
         let max_front = train.max_front();
         self.end_timer = passed_timer_of(&self.end_timer, now, max_front);
         self.overlap = passed_overlap_of(&self.overlap, now, max_front);
         drop_stopped(&mut self.timed, self.accepted, now, train.min_front());
+    }
+}
+
+/// Its times that still matter.
+impl Stored {
+    /// Whether it has none: its end is the same at every moment and wherever the train is.
+    pub fn has_no_time(&self) -> bool
+        ensures { IsTrue result → HasNoTime self.now }
+    {
+        self.has_no_timer() && self.keeps_speed_at_end()
+    }
+
+    // Whether no section, end section and overlap has a timer that isn't stopped.
+    #[inline(always)]
+    fn has_no_timer(&self) -> bool
+        ensures { IsTrue result → (self.now.timed.items ≡ []) × (self.now.end_timer ≡ None) × (self.now.overlap ≡ None) }
+    {
+        self.timed.is_empty() && self.end_timer.is_none() && self.overlap.is_none()
+    }
+
+    // Whether V_LOA is the same at every moment.
+    fn keeps_speed_at_end(&self) -> bool
+        ensures { IsTrue result → (self.now.end_speed ≡ 0) ⊎ (self.now.end_time ≡ never) }
+    {
+        self.end_speed.get() == 0 || self.end_time.expiry().is_none()
     }
 }
 

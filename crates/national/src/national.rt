@@ -1,5 +1,5 @@
 //! Which national values are in force, as packets announce them and groups of other countries are met.
-ghost use Rattle.std.specs.Prelude.{◌≡◌, ◌≤◌, false, List, [], ◌∷◌, length, IfSome};
+ghost use Rattle.std.specs.Prelude.{◌≡◌, ◌≤◌, false, is_some, List, [], ◌∷◌, length, IfSome};
 ghost use Rattle.national.specs.Values.{ValuesFor, is_any, is_foreign};
 ghost use Rattle.national.specs.InForce.{NationalEntry, fact_of, is_reached, known, announced_start, in_force, nothing_kept, has_come};
 ghost use Rattle.national.specs.InForce.NationalEntry.{Announced, Entered, Reached};
@@ -115,6 +115,13 @@ impl National {
             → is_any result.now ≡ has_come entries }
     {
         self.in_force.countries()
+    }
+
+    /// Whether values are announced that aren't in force yet.
+    pub fn is_waiting(&self) -> bool
+        ensures { result ≡ is_some self.now.announced }
+    {
+        self.announced.is_some()
     }
 
     /// Where the announced values come into force, in centimetres; None where none are announced, or they do wherever

@@ -23,3 +23,4 @@ pub mod Placed
 pub mod SameParts
 pub mod OneGroup
 pub mod Beginning
+pub mod Still

@@ -11,6 +11,7 @@ pub mod Hearing
 pub mod Steps
 pub mod Stores
 pub mod StandsFor
+pub mod Still
 pub mod Ending
 pub mod Columns
 pub mod Reported

@@ -1,5 +1,5 @@
 //! What is seen of the train once the groups of an event are used, and what is forgotten at its end.
-ghost use Rattle.std.specs.Prelude.{◌≡◌, ◌≤◌, None, Some, ◌∷◌};
+ghost use Rattle.std.specs.Prelude.{◌≡◌, ◌≤◌, None, Some, ◌∷◌, IsTrue};
 ghost use Rattle.units.specs.Limits.{HasReach};
 ghost use Rattle.areas.specs.Levels.{coming};
 ghost use Rattle.track_picture.specs.Entry.{TrackEntry};
@@ -7,6 +7,7 @@ ghost use Rattle.track_picture.specs.History.{announced_level};
 ghost use Rattle.track_picture.specs.Sentences.{span_with, forgetting_mark};
 ghost use Rattle.track_picture.specs.StandsFor.{Life, StandsForLife, grown, size_in};
 ghost use Rattle.track_picture.specs.Columns.{TrackReports, StandsForColumns, known_by, after_look};
+ghost use Rattle.track_picture.specs.Still.{IsStill};
 
 use crate::parts::Parts;
 use crate::state::TracksideOver;
@@ -38,6 +39,17 @@ impl Parts {
         self.national.reach(train.max_front());
         self.level.reach(train.max_front())
     }
+
+    // Whether nothing that is known may come.
+    #[inline(always)]
+    fn is_still(&self) -> bool
+        ensures { IsTrue result → IsStill self.now }
+    {
+        self.areas.as_slice().is_empty()
+            && self.level.announced().is_none()
+            && !self.national.is_waiting()
+            && self.authority.is_untimed()
+    }
 }
 
 impl<T: ProfileStores> TracksideOver<T> {
@@ -58,10 +70,19 @@ impl<T: ProfileStores> TracksideOver<T> {
         self.parts.look(&stretch)
     }
 
+    /// Whether nothing that is known may come: no mode area is stored, no level and no national values are announced,
+    /// and no time of the authority runs (SUBSET-026, 3.8, 3.12.4, 3.18.2 and 5.10). Then a look changes nothing.
+    pub fn is_still(&self) -> bool
+        ensures { IsTrue result → IsStill self.now.parts }
+    {
+        self.parts.is_still()
+    }
+
     // The track before a place is forgotten. Where the forgetting mark stays, both profiles have nothing before it.
     fn forget_before(&mut self, mark: Cm)
         ensures stands { (life : Life) (event : TrackEntry) → StandsForColumns T.stores self.old (grown life (record event { mark = None }))
             → StandsForColumns T.stores self.new (grown life (record event { mark = Some mark })) }
+        ensures parts { self.new.parts ≡ self.old.parts }
         ensures size { size_in T.stores self.new ≤ size_in T.stores self.old }
     {
         let moves = self.restrictions.mark() < mark;
@@ -78,6 +99,7 @@ impl<T: ProfileStores> TracksideOver<T> {
         ensures stands { (life : Life) (event : TrackEntry)
             → StandsForLife T.stores self.old (grown life (record event { mark = None }))
             → StandsForLife T.stores self.new (grown life (record event { mark = Some (forgetting_mark train.now) })) }
+        ensures parts { self.new.parts ≡ self.old.parts }
         ensures size { size_in T.stores self.new ≤ size_in T.stores self.old }
     {
         self.forget_before(forgetting_mark(train));

@@ -10,6 +10,7 @@ ghost use Rattle.track_picture.specs.StandsFor.{Life, StandsForLife, SameTrack, 
 ghost use Rattle.events.specs.declared.input.Input.TheVariants as inputs;
 ghost use Rattle.track_picture.specs.Columns.{StandsForColumns, columns_of, moved, happened_by, left_by, known_moved, still_reading};
 ghost use Rattle.track_picture.specs.Steps.{packets_by, HasSpaceFor};
+ghost use Rattle.track_picture.specs.Still.{SameAhead, closes_none};
 
 use crate::happened::Happened;
 use crate::parts::Parts;
@@ -45,6 +46,7 @@ impl Parts {
         ensures idle { is_none self.old.groups.current ≡ true → result ≡ false }
         ensures groups { self.new.groups ≡ self.old.groups }
         ensures stands { (life : Life) → self.old ≡ columns_of life → result ≡ false → self.new ≡ known_moved life reading.now }
+        ensures kept { SameAhead self.old self.new }
     {
         self.begin();
         self.speed = reading.speed;
@@ -96,8 +98,9 @@ impl Parts {
 
     // The clock gives a moment.
     fn tick(&mut self, moment: Ms)
-        ensures { (life : Life) → self.old ≡ columns_of life
+        ensures stands { (life : Life) → self.old ≡ columns_of life
             → self.new ≡ columns_of (grown_so_far life (record nothing { clock = Some moment }) no_groups) }
+        ensures kept { SameAhead self.old self.new }
     {
         self.begin();
         self.moment = moment;
@@ -127,6 +130,7 @@ impl<T: ProfileStores> TracksideOver<T> {
         ensures stands { OnOk result ((life : Life) → StandsForColumns T.stores self.old life
             → StandsForColumns T.stores self.new (grown_so_far life (moved life.entries reading.now)
             (with_groups mode life.entries (moved life.entries reading.now) (happened_by life.entries reading.now)))) }
+        ensures kept { closes_none self.old.parts (inputs.Odometer reading.now) ≡ true → OnOk result (SameAhead self.old.parts self.new.parts) }
         ensures err { OnErr result (self.new ≡ self.old) }
     {
         if self.parts.groups.is_idle() {
@@ -193,12 +197,14 @@ impl<T: ProfileStores> TracksideOver<T> {
     /// What an input brings in a mode, and the groups that it closes: first its own effect, then each group is judged,
     /// makes its fix, and the packets are used that the mode uses. Space is made first for all that they may add; where
     /// memory is refused for it, nothing changes. Where there is space for them, none is refused. An input that uses no
-    /// packet keeps no more track.
+    /// packet keeps no more track. A moment, and a reading while no group is being read, leave the authority, the areas
+    /// and what is announced.
     pub fn receive(&mut self, mode: Mode, input: &Input) -> Result<(), NoMemory>
         ensures quiet { HasSpaceFor T.stores self.old input.now → IsOk result }
         ensures idle { packets_by self.old.parts input.now ≡ 0 → OnOk result (size_in T.stores self.new ≡ size_in T.stores self.old) }
         ensures stands { OnOk result ((life : Life) → StandsForLife T.stores self.old life
             → StandsForLife T.stores self.new (grown life (received mode life.entries input.now))) }
+        ensures kept { closes_none self.old.parts input.now ≡ true → OnOk result (SameAhead self.old.parts self.new.parts) }
         ensures err { OnErr result (self.new ≡ self.old) }
     {
         match input {

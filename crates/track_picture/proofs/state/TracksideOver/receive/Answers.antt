@@ -42,7 +42,7 @@ returns-in-Clock-clause-stands g c life s =
     (sym c.in-Clock.is)
     (by_facts (grown life (received c.args.mode life.entries (inputs.Clock c.in-Clock.moment)))
     (record {
-      parts_are = c.tick.ensures life before.parts_are;
+      parts_are = c.tick.ensures.stands life before.parts_are;
       restrictions_are = before.restrictions_are;
       gradients_are = before.gradients_are;
       speeds_are = before.speeds_are;

@@ -8,6 +8,7 @@ import json
 import sys
 import tempfile
 from collections import Counter
+from itertools import product
 from pathlib import Path
 
 HERE = Path(__file__).resolve().parent
@@ -40,6 +41,8 @@ STEPS_BY_HAND = (
     ("a clock that falls", [{"clock": 9}, {"flush": True}, {"clock": 10}, {"clock": 3}, {"clock": 11}], [0], (3, 11, "ClockBack")),
 )
 BALISE = [{"at": 25000, "spacing": 1, "balises": ["90007F802001FFC0"]}]
+# The keys of a scenario in their orders. Where the steps come before the groups, the scenario is read as a whole value, not as its tokens come.
+ORDERS = (("groups", "steps"), ("cold", "groups", "steps"), ("groups", "steps", "cold"), ("steps", "groups"))
 
 
 def ends_of(end):
@@ -140,16 +143,18 @@ class RunRows(Compared):
         return self.ran(self.lab, "run", self.path)
 
     def by_hand(self):
-        for name, steps, places, end in STEPS_BY_HAND:
-            status, text, said = self.play(json.dumps({"groups": BALISE if "balise" in name else [], "steps": steps}))
+        for (name, steps, places, end), keys in product(STEPS_BY_HAND, ORDERS):
+            values = {"groups": BALISE if "balise" in name else [], "steps": steps, "cold": 1}
+            status, text, said = self.play(json.dumps({key: values[key] for key in keys}))
             printed = objects(text)
             first, events, last = printed[:1], printed[1:-1], printed[-1:]
+            cold = "moved" if "cold" in keys else "unknown"
             self.unless(
-                status == (0 if end == "done" else 1) and not said and is_same(first, [{"scenario": {"cold": "unknown", "steps": len(steps)}}])
+                status == (0 if end == "done" else 1) and not said and is_same(first, [{"scenario": {"cold": cold, "steps": len(steps)}}])
                 and is_same([line.get("step") for line in events], places)
                 and is_same([line.get("event") for line in events], list(range(1, len(places) + 1)))
-                and is_same(last, [ends_of(end)]), f"by hand: {name}: status {status}, {said}{text}")
-            self.as_run(f"by hand: {name}", status, text)
+                and is_same(last, [ends_of(end)]), f"by hand: {name}, {keys}: status {status}, {said}{text}")
+            self.as_run(f"by hand: {name}, {keys}", status, text)
             self.met["stopped"] += end != "done"
 
     def faults(self):

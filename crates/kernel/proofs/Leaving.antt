@@ -7,12 +7,16 @@ use Rattle.events.specs.Kept.{PositionFrom}
 use Rattle.mode_table.specs.declared.level.TrainLevel.{TrainLevel}
 use Rattle.mode_table.specs.declared.statuses.Cold.{Cold}
 use Rattle.mode_table.specs.declared.statuses.Cold.TheVariants as cold
-use Rattle.mode_control.specs.Sentences.{initial_life}
-use Rattle.mode_control.specs.StandsFor.{parts_of as supervision_parts_of}
+use Rattle.mode_control.specs.History.{tracks}
+use Rattle.mode_control.specs.Life.{length_by}
+use Rattle.mode_control.specs.Sentences.{initial_life, span_of}
+use Rattle.mode_control.specs.StandsFor.{KnownModes, StandsForLife as SupervisionStandsForLife, parts_of as supervision_parts_of}
+use Rattle.track_picture.specs.Sentences.{span_with}
 use Rattle.track_picture.specs.Stores.{Stores}
 use Rattle.kernel.specs.Lives.{left_by}
 use Rattle.kernel.specs.Output.{output_of}
 use Rattle.kernel.specs.StandsFor.{Knowledge, StandsForLife, parts_of}
+use Rattle.kernel.proofs.Still.{still_in}
 
 abbrev with_items : Kept → Datum TrainLevel → Datum PositionFrom → Kept
 with_items kept level position = record kept { level = level; position = position }
@@ -48,25 +52,36 @@ same_items cold.Moved kept (Invalid l) (Invalid p) = (refl, refl, refl)
 same : (recorded_cold : Cold) (kept : Kept) → Same recorded_cold kept
 same recorded_cold kept = same_items recorded_cold kept kept.level kept.position
 
+-- the train is at the same place in both
+places : (recorded_cold : Cold) (kept : Kept) → span_of (initial_life kept recorded_cold) ≡ span_of (initial_life (left_by recorded_cold kept) recorded_cold)
+places recorded_cold kept =
+    ap (λ (k : KnownModes). span_with (length_by k.driver.train_data) (tracks (initial_life kept recorded_cold).entries)) (same recorded_cold kept).1
+
 module _ {G S : Type 0} {stores : Stores G S} {known : Knowledge G S} where
   to_left : (recorded_cold : Cold) (kept : Kept) → StandsForLife stores known (initial_life kept recorded_cold) →
       StandsForLife stores known (initial_life (left_by recorded_cold kept) recorded_cold)
   to_left recorded_cold kept s =
       let is = same recorded_cold kept in
+      let supervision : SupervisionStandsForLife stores known.supervision (initial_life (left_by recorded_cold kept) recorded_cold) =
+      record { parts_are = s.supervision_is.parts_are ∙ is.1; track_is = s.supervision_is.track_is } in
       record {
         parts_are = s.parts_are ∙ is.0;
-        supervision_is = record { parts_are = s.supervision_is.parts_are ∙ is.1; track_is = s.supervision_is.track_is };
+        supervision_is = supervision;
         carried_is = s.carried_is;
+        still_is = still_in s.supervision_is supervision (places recorded_cold kept) known.carried.still known.carried.steady s.still_is;
       }
 
   from_left : (recorded_cold : Cold) (kept : Kept) → StandsForLife stores known (initial_life (left_by recorded_cold kept) recorded_cold) →
       StandsForLife stores known (initial_life kept recorded_cold)
   from_left recorded_cold kept s =
       let is = same recorded_cold kept in
+      let supervision : SupervisionStandsForLife stores known.supervision (initial_life kept recorded_cold) =
+      record { parts_are = s.supervision_is.parts_are ∙ sym is.1; track_is = s.supervision_is.track_is } in
       record {
         parts_are = s.parts_are ∙ sym is.0;
-        supervision_is = record { parts_are = s.supervision_is.parts_are ∙ sym is.1; track_is = s.supervision_is.track_is };
+        supervision_is = supervision;
         carried_is = s.carried_is;
+        still_is = still_in s.supervision_is supervision (sym (places recorded_cold kept)) known.carried.still known.carried.steady s.still_is;
       }
 
   -- where the same is left of both, what stands for the one life stands for the other

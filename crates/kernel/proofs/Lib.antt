@@ -6,3 +6,4 @@ pub mod Marking
 pub mod Standing
 pub mod Steady
 pub mod Tripped
+pub mod Still

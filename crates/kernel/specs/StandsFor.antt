@@ -1,6 +1,6 @@
 -- What the kernel knows represents a life, and so a past or a list of events (this project's profile). Distances are
 -- centimetres, speeds metres per hour.
-use Rattle.std.specs.Prelude.{◌≡◌, ℕ, ◌-◌, ◌^◌, min, Option, Some, None, List, [], ◌∷◌}
+use Rattle.std.specs.Prelude.{◌≡◌, ℕ, ◌-◌, ◌^◌, min, Option, Some, None, IfSome, List, [], ◌∷◌}
 use Rattle.driver.specs.declared.datum.Datum.{Datum}
 use Rattle.events.specs.declared.input.Event.{Event}
 use Rattle.events.specs.declared.input.Input.{Input}
@@ -21,7 +21,7 @@ use Rattle.kernel.specs.declared.counts.Counts.{Counts}
 use Rattle.kernel.specs.declared.sight.Sight.{Sight}
 use Rattle.kernel.specs.declared.window.Window.{Window}
 use Rattle.kernel.specs.Brake.{stands, train_stood, was_within_limit, is_above_limit_by, service_brake_requested, backward_at, rolled_backward, has_started}
-use Rattle.kernel.specs.Carrying.{IsCarried}
+use Rattle.kernel.specs.Carrying.{IsCarried, IsStillAt}
 use Rattle.kernel.specs.Lives.{Past, kept_of, counts_of, counts_in, life_of}
 use Rattle.kernel.specs.Position.{position_at_power_up}
 
@@ -79,6 +79,7 @@ pub record StandsForLife {G S : Type 0} (stores : Stores G S) (known : Knowledge
   pub parts_are : known.parts ≡ parts_of life
   pub supervision_is : mode_control.StandsForLife stores known.supervision life
   pub carried_is : IsCarried known.carried life
+  pub still_is : IfSome known.carried.still (λ train. IsStillAt known.supervision known.carried.steady train life)
 
 -- before its power-up nothing is known of a life but what was kept; it isn't counted yet
 pub record WaitsFor {G S : Type 0} (stores : Stores G S) (known : Knowledge G S) (kept : Kept) (cold : Cold) : Type 0 where

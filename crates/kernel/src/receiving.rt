@@ -12,6 +12,7 @@ ghost use Rattle.mode_control.specs.StandsFor.{StandsForLife as SupervisionStand
 ghost use Rattle.mode_table.specs.Modes.{is_mode};
 ghost use Rattle.speed_supervision.specs.Limit.{limit};
 ghost use Rattle.track_picture.specs.Steps.{HasSpaceFor as TrackHasSpaceFor};
+ghost use Rattle.track_picture.specs.Still.{closes_none as closes_no_group};
 
 use crate::parts::Parts;
 use crate::sight::{Sight, backward_by, reading_of, stands};
@@ -35,8 +36,9 @@ impl Parts {
 
 // An input closes no balise group: a reading or a moment, while none is being read.
 fn closes_none<T: ProfileStores>(supervision: &SupervisionOver<T>, input: &Input) -> bool
-    ensures { (life : Life) → SupervisionStandsForLife T.stores supervision.now life → result ≡ true
+    ensures none { (life : Life) → SupervisionStandsForLife T.stores supervision.now life → result ≡ true
         → (entry_of life input.now).track.used.groups ≡ [] }
+    ensures idle { result ≡ true → closes_no_group supervision.now.track.parts input.now ≡ true }
 {
     match input {
         Input::Odometer(_) | Input::Clock(_) => supervision.track().group_being_read().is_none(),
@@ -84,9 +86,12 @@ impl<T: ProfileStores> StateOver<T> {
     {
         let closes_none = closes_none(&self.supervision, input);
         let mode = self.supervision.mode();
-        self.supervision.receive(input)?;
+        self.supervision.begin(input)?;
+        self.carried.move_on(closes_none, input, &self.supervision);
+        let before_end = self.carried.steady.is_some();
+        let passed = self.supervision.finish(&self.carried.still, before_end);
         let calm = is_calm(closes_none, mode, self.supervision.mode());
-        let limit = self.carried.limit_after(calm, &self.supervision);
+        let limit = self.carried.limit_after(passed, calm, &self.supervision);
         let sight = sight_of(&self.supervision, input, limit);
         self.parts.note(&sight);
         self.counts = self.counts.received();

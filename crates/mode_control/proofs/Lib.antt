@@ -2,3 +2,4 @@ pub mod Known
 pub mod Standing
 pub mod Untripped
 pub mod Resting
+pub mod Keeping

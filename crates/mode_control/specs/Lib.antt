@@ -7,3 +7,4 @@ pub mod Tripping
 pub mod Closings
 pub mod StandsFor
 pub mod Resting
+pub mod Still

@@ -1,7 +1,8 @@
 //! What the driver does: an action counts where it is accepted in the situation before the event.
-ghost use Rattle.std.specs.Prelude.{◌≡◌, None, Some};
+ghost use Rattle.std.specs.Prelude.{◌≡◌, true, None, Some};
 ghost use Rattle.driver.specs.Accepting.{accepts, refusal};
 ghost use Rattle.track_picture.specs.Entry.{TrackEntry};
+ghost use Rattle.track_picture.specs.Still.{closes_none};
 ghost use Rattle.mode_control.specs.Entry.{initial};
 ghost use Rattle.mode_control.specs.Life.{Life, driver_of, grown};
 ghost use Rattle.mode_control.specs.Sentences.{situation, occasion, deed_by, deed_of};
@@ -31,7 +32,8 @@ impl Parts {
 
     /// What the driver did in an event.
     pub fn note(&mut self, deed: &Option<Deed>)
-        ensures { (life : Life) (reported : TrackEntry) → self.old ≡ parts_of life
+        ensures none { deed.now ≡ None → self.new ≡ record self.old { done = None } }
+        ensures stands { (life : Life) (reported : TrackEntry) → self.old ≡ parts_of life
             → self.new ≡ parts_of (grown life (initial (record reported { entered = None }) deed.now)) }
     {
         match deed {
@@ -105,7 +107,8 @@ impl<T: ProfileStores> SupervisionOver<T> {
 
     /// What the driver does by an input, if it is accepted.
     pub(crate) fn deed(&self, input: &Input) -> Option<Deed>
-        ensures { (life : Life) → StandsForLife T.stores self.now life → result ≡ deed_of life input.now }
+        ensures stands { (life : Life) → StandsForLife T.stores self.now life → result ≡ deed_of life input.now }
+        ensures none { closes_none self.now.track.parts input.now ≡ true → result ≡ None }
     {
         match input {
             Input::Driver(action) => self.deed_by(action),

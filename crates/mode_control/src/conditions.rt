@@ -6,7 +6,7 @@ ghost use Rattle.track_picture.specs.History.{areas_of};
 ghost use Rattle.track_picture.specs.StandsFor.{Life as TrackLife, parts_of as track_parts_of};
 ghost use Rattle.units.specs.Stretches.{Span};
 ghost use Rattle.mode_control.specs.Conditions.{calm, is_level_0, is_level_1, is_full_to, is_full, is_overridden, left_of_override, is_beyond, is_beyond_end, trips, is_beyond_staff_distance, is_start, is_shunting_choice, is_leaving, is_override, is_desk_closing, is_trip_acknowledging, conditions};
-ghost use Rattle.mode_control.specs.History.{mode_of};
+ghost use Rattle.mode_control.specs.History.{tracks, mode_of};
 ghost use Rattle.mode_control.specs.Life.{Life};
 ghost use Rattle.mode_control.specs.StandsFor.{StandsForLife};
 
@@ -257,6 +257,45 @@ impl<T: ProfileStores> SupervisionOver<T> {
             return self.stays_responsible(train);
         }
         false
+    }
+
+    // Whether the train isn't to be tripped before the end of authority, and the level isn't 0.
+    fn is_untripped(&self) -> bool
+        ensures { (life : Life) (train : Span) → StandsForLife T.stores self.now life → is_beyond_end life train ≡ false → IsTrue result
+            → ((conditions life train).trip ≡ false) × ((conditions life train).level_0 ≡ false) }
+    {
+        !is_level_0(&self.parts.driver.level())
+            && !self.track.happened().requested.trip
+            && !self.track.is_stopped()
+    }
+
+    // Whether Full Supervision stays before the end of authority, where no area is known.
+    fn stays_full(&self) -> bool
+        ensures { (life : Life) (train : Span) → StandsForLife T.stores self.now life → areas_of (tracks life.entries) ≡ []
+            → is_beyond_end life train ≡ false → IsTrue result
+            → next_mode (mode_of life.entries) (conditions life train) ≡ mode_of life.entries }
+    {
+        if !self.is_calm() {
+            return false;
+        }
+        let mode = self.parts.mode;
+        if !is_full_supervision(mode) {
+            return false;
+        }
+        self.is_untripped()
+    }
+
+    /// Whether the mode stays where no area is known, as a few looks show; before the end of authority fewer are needed.
+    /// Where they don't it may stay all the same.
+    pub(crate) fn keeps_mode(&self, train: &Stretch, before_end: bool) -> bool
+        ensures { (life : Life) → StandsForLife T.stores self.now life → areas_of (tracks life.entries) ≡ []
+            → (IsTrue before_end → is_beyond_end life train.now ≡ false) → IsTrue result
+            → next_mode (mode_of life.entries) (conditions life train.now) ≡ mode_of life.entries }
+    {
+        if before_end && self.stays_full() {
+            return true;
+        }
+        self.stays(train)
     }
 
     /// The mode after the event, where the train is there. Whether the track ahead is known up to the end of authority

@@ -15,6 +15,7 @@ ghost use Rattle.mode_control.specs.Life.{Life, grown};
 ghost use Rattle.mode_control.specs.Resting.{Rests};
 ghost use Rattle.mode_control.specs.Sentences.{changed, entered_in, has_entered, mode_after, moment_where, is_coming_to_level_0, call_of_areas, call_of_level, calls_in, left_in, the_mode_changes, the_calls_are_settled, written};
 ghost use Rattle.mode_control.specs.StandsFor.{StandsForLife, parts_of};
+ghost use Rattle.mode_control.specs.Still.{IsStill};
 
 use crate::acknowledging::answer;
 use crate::calls::{Call, Calls, Left};
@@ -156,6 +157,14 @@ fn announces_nothing<T: ProfileStores>(track: &TracksideOver<T>, level: &Option<
 }
 
 impl<T: ProfileStores> SupervisionOver<T> {
+    /// Whether nothing comes: no area, level or national value is known that waits for its place, no timer of the authority
+    /// runs, and the driver has nothing to acknowledge.
+    pub fn is_still(&self) -> bool
+        ensures { IsTrue result → IsStill self.now }
+    {
+        self.parts.owes_nothing() && self.track.is_still()
+    }
+
     // Whether an event leaves all as it is: the mode stays, and nothing is called for, owed or left.
     fn rests(&self, seen: &Seen) -> bool
         ensures { (life : Life) → StandsForLife T.stores self.now life → IsTrue result → Rests life seen.now.train seen.now.level }

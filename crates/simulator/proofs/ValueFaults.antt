@@ -15,12 +15,12 @@ use Rattle.mode_table.specs.Numbers.{level_by, cold_by}
 use Rattle.driver.specs.declared.action_kind.ActionKind.{ActionKind}
 use Rattle.driver.specs.declared.action_kind.ActionKind.TheVariants as a_kind
 use Rattle.driver.specs.Numbers.{action_by, item_by, reason_by}
-use Rattle.simulator.specs.Values.{◌>>=◌, shaped, given, whole, within, known, numbered, hex_bytes, bytes_in, whole_item, text_item}
+use Rattle.simulator.specs.Values.{◌>>=◌, shaped, given, whole, within, known, numbered, hex_bytes, bytes_in, whole_item, text_item, items_at}
 use Rattle.json_values.specs.Shapes.{has_members, list_in}
-use Rattle.simulator.specs.Groups.{whole_at, list_at, are_texts, laid_one, laid, group, groups}
+use Rattle.simulator.specs.Groups.{whole_at, are_texts, laid_one, laid, group, groups}
 use Rattle.simulator.specs.Actions.{is_identity, level, confirmed, acknowledged, identity, entered_identity, lone_value, entered_number, brakes, train, entered_train, chosen_level, confirmed_item, acknowledged_kind, bare, or_shape, by_kind, action}
 use Rattle.simulator.specs.Steps.{drive, telegram, clock, driver, flush, or_else, by_key, step_of}
-use Rattle.simulator.specs.Lives.{lived, steps_in, has_keys, cold_value, cold_of, items_at, life_in}
+use Rattle.simulator.specs.Lives.{lived, steps_in, has_keys, cold_value, cold_of, life_in}
 use Rattle.simulator.specs.declared.fault.ScenarioFault.{ScenarioFault}
 use Rattle.simulator.specs.declared.fault.ScenarioFault.TheVariants.{NotJson, Shape, OutOfRange, BadHex, NoMemory}
 
@@ -92,6 +92,11 @@ of_whole ds n = of_shaped (option_and_then whole (slice_get ds n))
 of_text : (ds : List Data) (n : ℕ) → Fits (text_item ds n)
 of_text ds n = of_shaped (option_and_then as_str (slice_get ds n))
 
+-- the items of a list at a key
+of_items : (key : List ℕ) (d : Data) → Fits (items_at key d)
+unfolding items_at
+of_items key d = bind _ _ (of_shaped (get key d)) (λ v. of_shaped (list_in v))
+
 -- ---- groups
 
 of_laid_one : (at : ℕ) (d : Data) (bs : List Balise) → Fits (laid_one at d bs)
@@ -106,7 +111,7 @@ of_group : (d : Data) (bs : List Balise) → Fits (group d bs)
 unfolding group
 of_group d bs =
     bind _ _ (of_given (has_members 3 d) Shape tt) (λ u. bind _ _ (of_shaped (whole_at (codes "at") d)) (λ at. bind _ _ (of_shaped (whole_at (codes "spacing") d)) (λ spacing.
-    bind _ _ (of_shaped (list_at (codes "balises") d)) (λ items.
+    bind _ _ (of_items (codes "balises") d) (λ items.
     bind _ _ (of_given (nat_le 1 (length items) && nat_le (length items) 8 && are_texts items) Shape tt) (λ v.
     bind _ _ (of_within 1 100_000_000 at) (λ first. bind _ _ (of_within 1 1_200 spacing) (λ apart. of_laid first apart items bs)))))))
 
@@ -247,10 +252,6 @@ of_cold : (o : Option Data) → Fits (cold_of o)
 unfolding cold_of
 of_cold None = of_ok _
 of_cold (Some v) = bind _ _ (of_shaped (whole v)) of_cold_value
-
-of_items : (key : List ℕ) (d : Data) → Fits (items_at key d)
-unfolding items_at
-of_items key d = bind _ _ (of_shaped (get key d)) (λ v. of_shaped (list_in v))
 
 pub of_life : (d : Data) → Fits (life_in d)
 unfolding life_in

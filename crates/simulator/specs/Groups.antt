@@ -3,18 +3,15 @@
 use Rattle.std.specs.Prelude.{ℕ, ◌+◌, ◌&&◌, nat_le, ℤ, List, [], ◌∷◌, ◌++◌, length, codes, is_some, Bool, true, option_and_then, Option, Result, Ok}
 use Rattle.serde_json.specs.Data.{Data}
 use Rattle.serde_json.specs.Find.{get, as_str}
-use Rattle.simulator.specs.Values.{◌>>=◌, shaped, given, whole, within, bytes_in}
-use Rattle.json_values.specs.Shapes.{has_members, list_in}
+use Rattle.simulator.specs.Values.{◌>>=◌, shaped, given, whole, items_at, within, bytes_in}
+use Rattle.json_values.specs.Shapes.{has_members}
 use Rattle.simulator.specs.declared.balise.Balise.{Balise}
 use Rattle.simulator.specs.declared.fault.ScenarioFault.{ScenarioFault}
 use Rattle.simulator.specs.declared.fault.ScenarioFault.TheVariants.{Shape}
 
--- a whole number, and a list, that stand at a key
+-- a whole number that stands at a key
 abbrev pub whole_at : List ℕ → Data → Option ℤ
 whole_at key d = option_and_then whole (get key d)
-
-abbrev pub list_at : List ℕ → Data → Option (List Data)
-list_at key d = option_and_then list_in (get key d)
 
 abbrev pub are_texts : List Data → Bool
 are_texts [] = true
@@ -38,7 +35,7 @@ group d bs = do
   _ ← given (has_members 3 d) Shape
   at ← shaped (whole_at (codes "at") d)
   spacing ← shaped (whole_at (codes "spacing") d)
-  items ← shaped (list_at (codes "balises") d)
+  items ← items_at (codes "balises") d
   _ ← given (nat_le 1 (length items) && nat_le (length items) 8 && are_texts items) Shape
   first ← within 1 100_000_000 at
   apart ← within 1 1_200 spacing

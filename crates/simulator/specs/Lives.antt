@@ -10,8 +10,8 @@ use Rattle.events.specs.declared.step.Step.{Step}
 use Rattle.simulator.specs.Passing.{passed}
 use Rattle.simulator.specs.Course.{Run, start, taken, ended}
 use Rattle.simulator.specs.declared.balise.Balise.{Balise}
-use Rattle.simulator.specs.Values.{◌>>=◌, shaped, given, whole, numbered}
-use Rattle.json_values.specs.Shapes.{has_members, list_in}
+use Rattle.simulator.specs.Values.{◌>>=◌, shaped, given, whole, items_at, numbered}
+use Rattle.json_values.specs.Shapes.{has_members}
 use Rattle.simulator.specs.Groups.{groups}
 use Rattle.simulator.specs.Steps.{step_of}
 use Rattle.simulator.specs.declared.fault.ScenarioFault.{ScenarioFault}
@@ -40,12 +40,6 @@ cold_value z = numbered cold_by z
 unfoldable pub cold_of : Option Data → Result Cold ScenarioFault
 cold_of None = Ok Unknown
 cold_of (Some v) = shaped (whole v) >>= cold_value
-
--- the items of a list that stands at a key
-unfoldable pub items_at : List ℕ → Data → Result (List Data) ScenarioFault
-items_at key d = do
-  v ← shaped (get key d)
-  shaped (list_in v)
 
 -- the cold movement value and the steps of a life, or the first fault
 unfoldable pub life_in : Data → Result (Cold × List Step) ScenarioFault

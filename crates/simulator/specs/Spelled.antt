@@ -1,18 +1,19 @@
 -- What tokens spell (RFC 8259), up to what follows it (this project's profile). A number bounds how deep it nests.
-use Rattle.std.specs.Prelude.{◌≡◌, ◌⊎◌, ℕ, ◌≤◌, List, [], ◌∷◌, ◌++◌, codes, Some, Result, Ok}
+use Rattle.std.specs.Prelude.{◌≡◌, ◌⊎◌, ℕ, ◌≤◌, ℤ, List, [], ◌∷◌, ◌++◌, codes, Some, Result, Ok, IfSome}
 use Rattle.json.specs.Json as json
 use Rattle.json.specs.Token.{Token}
 use Rattle.json.specs.Tree.{json_tokens, items_tokens, members_tokens, depth, items_depth, members_depth}
 use Rattle.json_values.specs.Shapes.{list_of}
 use Rattle.serde_json.specs.Data.{Data, array, Items, Members, put}
 use Rattle.serde_json.specs.Read.{of_json, of_items, of_members}
-use Rattle.events.specs.declared.step.Step.{Step}
 use Rattle.mode_table.specs.declared.statuses.Cold.{Cold}
 use Rattle.mode_table.specs.declared.statuses.Cold.TheVariants.{Unknown}
+use Rattle.simulator.specs.Course.{start}
 use Rattle.simulator.specs.Groups.{groups}
-use Rattle.simulator.specs.Lives.{cold_of, steps_in}
+use Rattle.simulator.specs.Lives.{cold_of, steps_in, life_in, ends_by, ends_in}
 use Rattle.simulator.specs.Passing.{passed}
 use Rattle.simulator.specs.declared.balise.Balise.{Balise}
+use Rattle.simulator.specs.declared.one_pass.steps.TakenSteps.{TakenSteps}
 use Rattle.simulator.specs.declared.step_kinds.StepKind.{StepKind}
 use Rattle.simulator.specs.declared.fault.ScenarioFault.{ScenarioFault}
 
@@ -42,12 +43,20 @@ Asks meaning ts step rest = (v : Data) × SpellsValue 1 ts v (Token.end_object �
 abbrev pub IsCold : List Token → Cold → List Token → Type 0
 IsCold ts cold rest = (v : Data) × Adds 3 ts (put (codes "cold") v) rest × (cold_of (Some v) ≡ Ok cold)
 
+-- what is taken of the steps on a track, and their ends where they are kept
+abbrev pub AreTaken : (ℤ → ℕ → List Balise) → List Data → TakenSteps → Type 0
+AreTaken ahead ds taken = (steps_in ahead ds ≡ Ok taken.steps) × IfSome taken.ends (λ ends. ends_by ahead ds start [] ≡ Ok ends.items)
+
 -- the groups and the steps, with their keys
-abbrev pub IsBody : List Token → List Step → List Token → Type 0
-IsBody ts steps rest =
+abbrev pub IsBody : List Token → TakenSteps → List Token → Type 0
+IsBody ts taken rest =
     (gs ss : Items) × (laid : List Balise) × Adds 3 ts (λ found. put (codes "steps") (array ss) (put (codes "groups") (array gs) found)) rest
-    × (groups (list_of gs) [] ≡ Ok laid) × (steps_in (passed laid) (list_of ss) ≡ Ok steps)
+    × (groups (list_of gs) [] ≡ Ok laid) × AreTaken (passed laid) (list_of ss) taken
 
 -- the end of a scenario, where no value of `cold` came before
 abbrev pub IsEnd : List Token → Cold → List Token → Type 0
 IsEnd ts cold rest = ((cold ≡ Unknown) × (ts ≡ Token.end_object ∷ rest)) ⊎ IsCold ts cold (Token.end_object ∷ rest)
+
+-- the life that a value asks for, and its ends where they are kept
+abbrev pub IsLifeOf : Data → Cold → TakenSteps → Type 0
+IsLifeOf d cold taken = (life_in d ≡ Ok (cold, taken.steps)) × IfSome taken.ends (λ ends. ends_in d ≡ Ok ends.items)

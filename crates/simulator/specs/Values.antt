@@ -1,10 +1,11 @@
 -- Looking into a JSON value, and the first fault in order (this project's profile).
 use Rattle.std.specs.Prelude.{ℕ, ◌&&◌, nat_le, ℤ, pos, int_le, List, length, slice_get, Bool, true, false, if◌then◌else◌, Option, Some, None, option_and_then, Result, Ok, Err}
 use Rattle.serde_json.specs.Data.{Data}
-use Rattle.serde_json.specs.Find.{as_number, as_i64, as_str}
+use Rattle.serde_json.specs.Find.{get, as_number, as_i64, as_str}
 use Rattle.simulator.specs.Numbers.{natural}
 use Rattle.hex.specs.Hex.{decode_of}
 use Rattle.hex.specs.declared.error.FromHexError.{FromHexError}
+use Rattle.json_values.specs.Shapes.{list_in}
 use Rattle.packets.specs.Limits.{telegram_bytes}
 use Rattle.simulator.specs.declared.fault.ScenarioFault.{ScenarioFault}
 use Rattle.simulator.specs.declared.fault.ScenarioFault.TheVariants.{Shape, OutOfRange, BadHex}
@@ -37,6 +38,12 @@ whole_item ds n = shaped (option_and_then whole (slice_get ds n))
 
 abbrev pub text_item : List Data → ℕ → Result (List ℕ) ScenarioFault
 text_item ds n = shaped (option_and_then as_str (slice_get ds n))
+
+-- the items of a list that stands at a key
+unfoldable pub items_at : List ℕ → Data → Result (List Data) ScenarioFault
+items_at key d = do
+  v ← shaped (get key d)
+  shaped (list_in v)
 
 -- ---- values
 

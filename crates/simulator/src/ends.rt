@@ -8,8 +8,9 @@ ghost use Rattle.simulator.specs.Lives.{ends_by, ends_in};
 use crate::ScenarioFault;
 use crate::asking::step_of;
 use crate::driving::Course;
-use crate::lives::{items_at, track_of};
+use crate::lives::track_of;
 use crate::track::Track;
+use crate::values::items_at;
 use serde_json::Value;
 use std::alloc::Global;
 

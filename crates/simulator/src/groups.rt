@@ -1,13 +1,13 @@
 //! The groups of a scenario.
-ghost use Rattle.std.specs.Prelude.{◌≡◌, ◌⊎◌, ◌≤◌, length, map, option_map, OnOk, IfErr};
+ghost use Rattle.std.specs.Prelude.{◌≡◌, ◌⊎◌, ◌≤◌, length, map, OnOk, IfErr};
 ghost use Rattle.serde_json.specs.View.{view};
-ghost use Rattle.simulator.specs.Groups.{are_texts, laid_one, laid, group, groups, whole_at, list_at};
+ghost use Rattle.simulator.specs.Groups.{are_texts, laid_one, laid, group, groups, whole_at};
 
 use crate::ScenarioFault;
 use crate::balise::Balise;
 use crate::telegrams::bytes_of;
-use crate::values::within;
-use json_values::{has_members, items_of};
+use crate::values::{items_at, within};
+use json_values::has_members;
 use serde_json::Value;
 use std::alloc::Global;
 
@@ -15,12 +15,6 @@ fn whole_at(value: &Value, key: &str) -> Option<i64>
     ensures { result ≡ whole_at key.now (view value.now) }
 {
     value.get(key)?.as_i64()
-}
-
-fn list_at<'a>(value: &'a Value, key: &str) -> Option<&'a [Value]>
-    ensures { option_map (λ items. map view items.now) result ≡ list_at key.now (view value.now) }
-{
-    items_of(value.get(key)?)
 }
 
 fn are_texts(items: &[Value]) -> bool
@@ -91,7 +85,7 @@ pub(crate) fn lay_group(
     }
     let at = whole_at(value, "at").ok_or(ScenarioFault::Shape)?;
     let spacing = whole_at(value, "spacing").ok_or(ScenarioFault::Shape)?;
-    let items = list_at(value, "balises").ok_or(ScenarioFault::Shape)?;
+    let items = items_at(value, "balises")?;
     if items.is_empty() || items.len() > 8 || !are_texts(items) {
         return Err(ScenarioFault::Shape);
     }

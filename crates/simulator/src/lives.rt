@@ -4,15 +4,15 @@ ghost use Rattle.serde_json.specs.View.{view};
 ghost use Rattle.serde_json.specs.Find.{get};
 ghost use Rattle.simulator.specs.Passing.{passed};
 ghost use Rattle.simulator.specs.Groups.{groups};
-ghost use Rattle.simulator.specs.Lives.{steps_in, has_keys, cold_value, cold_of, items_at, life_in};
+ghost use Rattle.simulator.specs.Lives.{steps_in, has_keys, cold_value, cold_of, life_in};
 
 use crate::ScenarioFault;
 use crate::asking::step_of;
 use crate::driving::Course;
 use crate::groups::lay_all;
 use crate::track::Track;
-use crate::values::byte_of;
-use json_values::{has_members, items_of};
+use crate::values::{byte_of, items_at};
+use json_values::has_members;
 use mode_table::Cold;
 use serde_json::Value;
 use std::alloc::Global;
@@ -49,16 +49,6 @@ fn cold_of(value: &Value) -> Result<Cold, ScenarioFault>
         Some(cold) => cold_in(cold),
         None => Ok(Cold::Unknown),
     }
-}
-
-/// The items of the list at a key.
-#[tactic(auto, unfolding(crate::specs::Lives::items_at))]
-pub(crate) fn items_at<'a>(value: &'a Value, key: &str) -> Result<&'a [Value], ScenarioFault>
-    ensures ok { IfOk result (λ items. items_at key.now (view value.now) ≡ Ok (map view items.now)) }
-    ensures err { IfErr result (λ fault. items_at key.now (view value.now) ≡ Err fault) }
-{
-    let list = value.get(key).ok_or(ScenarioFault::Shape)?;
-    items_of(list).ok_or(ScenarioFault::Shape)
 }
 
 /// The track on which all groups are laid.

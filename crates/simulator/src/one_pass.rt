@@ -4,4 +4,4 @@ mod life;
 mod steps;
 mod tokens;
 
-pub(crate) use life::life_by_tokens;
+pub(crate) use life::{ends_by_tokens, life_by_tokens};

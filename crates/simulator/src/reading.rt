@@ -6,7 +6,7 @@ ghost use Rattle.simulator.specs.Scenarios.{IsReading, Describes, FaultOf, Descr
 
 use crate::fault::ScenarioFault;
 use crate::lives::life_of;
-use crate::one_pass::life_by_tokens;
+use crate::one_pass::{ends_by_tokens, life_by_tokens};
 use events::Step;
 use mode_table::Cold;
 use serde_json::Value;
@@ -62,5 +62,8 @@ pub fn ends_of(alloc: Global, scenario: &Scenario) -> Result<Vec<usize>, Scenari
     ensures ok { IfOk result (λ ends. DescribesEnds scenario.now.bytes.items ends.items) }
     ensures err { IfErr result (λ fault. (fault ≡ ScenarioFault.NoMemory) ⊎ EndsFault scenario.now.bytes.items fault) }
 {
+    if let Some(ends) = ends_by_tokens(alloc, scenario.bytes.as_slice()) {
+        return Ok(ends);
+    }
     crate::ends::ends_of(alloc, &value_of(alloc, scenario)?)
 }

@@ -1,9 +1,10 @@
 //! Looking into a JSON value.
-ghost use Rattle.std.specs.Prelude.{◌≡◌, ◌≤◌, map, IfOk};
+ghost use Rattle.std.specs.Prelude.{◌≡◌, ◌≤◌, map, Ok, Err, IfOk, IfErr};
 ghost use Rattle.serde_json.specs.View.{view};
-ghost use Rattle.simulator.specs.Values.{whole_item, within};
+ghost use Rattle.simulator.specs.Values.{whole_item, items_at, within};
 
 use crate::ScenarioFault;
+use json_values::items_of;
 use serde_json::Value;
 
 /// The whole number at a place in a list.
@@ -15,6 +16,16 @@ pub(crate) fn whole_item(items: &[Value], place: usize) -> Result<i64, ScenarioF
         Some(item) => item.as_i64().ok_or(ScenarioFault::Shape),
         None => Err(ScenarioFault::Shape),
     }
+}
+
+/// The items of the list at a key.
+#[tactic(auto, unfolding(crate::specs::Values::items_at))]
+pub(crate) fn items_at<'a>(value: &'a Value, key: &str) -> Result<&'a [Value], ScenarioFault>
+    ensures ok { IfOk result (λ items. items_at key.now (view value.now) ≡ Ok (map view items.now)) }
+    ensures err { IfErr result (λ fault. items_at key.now (view value.now) ≡ Err fault) }
+{
+    let list = value.get(key).ok_or(ScenarioFault::Shape)?;
+    items_of(list).ok_or(ScenarioFault::Shape)
 }
 
 /// A number from `low` to `high`.

@@ -7,3 +7,4 @@ pub mod Deciding
 pub mod Releasing
 pub mod Overriding
 pub mod Remaining
+pub mod Lasting

@@ -1,12 +1,18 @@
 -- A limit that stays the same while the train moves on within a window (this project's profile; SUBSET-026, 3.11 and
 -- 3.13). Places are centimetres, speeds metres per hour.
-use Rattle.std.specs.Prelude.{◌≡◌, ℕ, ◌≤ℤ◌}
+use Rattle.std.specs.Prelude.{◌≡◌, ℕ, ◌≤ℤ◌, false}
+use Rattle.std.specs.Option.{option_map_or}
 use Rattle.units.specs.Stretches.{Span}
+use Rattle.driver.specs.declared.datum.Datum.TheVariants.{Valid}
+use Rattle.driver.specs.Limits.{Train}
 use Rattle.track_picture.specs.History.{gradients_of}
+use Rattle.track_picture.specs.Sentences.{forgetting_mark}
+use Rattle.mode_control.specs.Conditions.{is_beyond}
 use Rattle.mode_control.specs.History.{tracks}
-use Rattle.mode_control.specs.Life.{Life}
+use Rattle.mode_control.specs.Life.{Life, driver_of}
+use Rattle.mode_control.specs.Sentences.{values_of}
 use Rattle.speed_supervision.specs.declared.steady.SteadyLimit.{SteadyLimit}
-use Rattle.speed_supervision.specs.Limit.{along}
+use Rattle.speed_supervision.specs.Limit.{bounds_of, in_areas, along}
 use Rattle.speed_supervision.specs.Supervised.{permitted_on}
 use Rattle.speed_supervision.specs.Targets.{Journey}
 
@@ -17,6 +23,22 @@ Covers wide narrow = (wide.rear ≤ℤ narrow.rear) × (wide.min_front ≤ℤ na
 -- a train is within the window
 abbrev pub IsWithin : SteadyLimit → Span → Type 0
 IsWithin steady train = Covers steady.widest train × Covers train steady.narrowest
+
+-- .. before the end of authority, if a speed isn't allowed there, and what is forgotten of the track lies no farther on than
+-- the window; the least that the train covers there is ordered
+pub record IsAbout (steady : SteadyLimit) (train : Span) : Type 0 where
+  pub within : IsWithin steady train
+  pub before_end : option_map_or (is_beyond train.min_front) steady.bounds.end false ≡ false
+  pub near : forgetting_mark train ≤ℤ steady.widest.rear
+  pub ordered : steady.narrowest.rear ≤ℤ steady.narrowest.max_front
+
+-- the bounds, brakes and national speeds for which it is steady are those of a life
+pub record IsFor (steady : SteadyLimit) (life : Life) : Type 0 where
+  pub train : Train
+  pub valid : (driver_of life).train_data ≡ Valid train
+  pub bounds : steady.bounds ≡ bounds_of life train
+  pub brakes : steady.brakes ≡ train.brakes
+  pub national : steady.national ≡ in_areas (values_of life)
 
 -- the journey of a train that is somewhere on the track of a life, with the bounds, brakes and national speeds for which
 -- the limit is steady

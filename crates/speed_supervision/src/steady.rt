@@ -1,11 +1,15 @@
 //! A limit that stays the same while the train moves on within a window, so that most readings need not seek it again.
-ghost use Rattle.std.specs.Prelude.{◌≡◌, pos, ◌-ℤ◌, ◌≤ℤ◌, IsTrue, IfSome};
+ghost use Rattle.std.specs.Prelude.{◌≡◌, pos, ◌-ℤ◌, ◌≤ℤ◌, false, IsTrue, IfSome};
+ghost use Rattle.std.specs.Option.{option_map_or};
 ghost use Rattle.driver.specs.declared.datum.Datum.TheVariants.{Valid};
-ghost use Rattle.mode_control.specs.Life.{Life};
+ghost use Rattle.mode_table.specs.declared.mode.Mode.{Mode as AMode};
+ghost use Rattle.mode_control.specs.Conditions.{is_beyond};
+ghost use Rattle.mode_control.specs.History.{mode_of};
+ghost use Rattle.mode_control.specs.Life.{Life, driver_of};
 ghost use Rattle.mode_control.specs.Sentences.{values_of, span_of};
 ghost use Rattle.mode_control.specs.StandsFor.{StandsForLife};
 ghost use Rattle.speed_supervision.specs.Limit.{bounds_of, in_areas, permitted_speed, limit};
-ghost use Rattle.speed_supervision.specs.Steady.{IsWithin, IsSteady};
+ghost use Rattle.speed_supervision.specs.Steady.{IsWithin, IsAbout, IsFor, IsSteady};
 ghost use Rattle.track_picture.specs.Sentences.{forgetting_mark};
 
 use crate::alike::{are_same_bounds, are_same_brakes, are_same_speeds};
@@ -63,7 +67,7 @@ impl SteadyLimit {
         ensures near { (life : Life) → StandsForLife T.stores supervision.now life
             → IfSome result (λ speed. forgetting_mark (span_of life) ≤ℤ self.now.widest.rear) }
     {
-        if !self.is_about(&supervision.stretch()) {
+        if !self.has_within(&supervision.stretch()) {
             return None;
         }
         let train = supervised_train(supervision)?;
@@ -74,8 +78,43 @@ impl SteadyLimit {
         }
     }
 
+    /// Whether a train is within the window and before the end of authority, and what is forgotten of the track lies no
+    /// farther on than the window.
+    pub fn is_about(&self, train: &Stretch) -> bool
+        ensures { IsTrue result → IsAbout self.now train.now }
+    {
+        // (this call promises that the window is ordered)
+        let _rear = self.narrowest.rear();
+        self.has_within(train) && self.is_before_end(train)
+    }
+
+    /// Whether the mode is Full Supervision, the data of the train are valid, and it holds for them and for what is known
+    /// of the track.
+    pub fn is_for_full<T: ProfileStores>(&self, supervision: &SupervisionOver<T>) -> bool
+        ensures mode { (life : Life) → StandsForLife T.stores supervision.now life → IsTrue result → mode_of life.entries ≡ AMode.FullSupervision }
+        ensures data { (life : Life) → StandsForLife T.stores supervision.now life → IsTrue result → IsFor self.now life }
+    {
+        let Mode::FullSupervision = supervision.mode() else {
+            return false;
+        };
+        match valid_train(&supervision.driver().train_data()) {
+            Some(train) => self.is_for(supervision, &train),
+            None => false,
+        }
+    }
+
+    // Whether a train isn't beyond the end of authority where no speed is allowed there.
+    fn is_before_end(&self, train: &Stretch) -> bool
+        ensures { IsTrue result → option_map_or (is_beyond train.now.min_front) self.now.bounds.end false ≡ false }
+    {
+        match &self.bounds.end {
+            None => true,
+            Some(end) => end.place >= train.min_front() || end.speed.get() != 0,
+        }
+    }
+
     // Whether a train is within the window, and what is forgotten of the track lies no farther on than the window.
-    fn is_about(&self, train: &Stretch) -> bool
+    fn has_within(&self, train: &Stretch) -> bool
         ensures within { IsTrue result → IsWithin self.now train.now }
         ensures near { IsTrue result → forgetting_mark train.now ≤ℤ self.now.widest.rear }
     {

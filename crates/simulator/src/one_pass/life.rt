@@ -1,17 +1,15 @@
 //! A scenario in its usual form, read in one pass over its tokens: an object with the groups and then the steps, each key
 //! once, the value of `cold` before or after them, and within each item its members in one order. Any other text is None,
 //! also one with a fault.
-ghost use Rattle.std.specs.Prelude.{◌≡◌, ◌∷◌, codes, Ok, IfSome};
+ghost use Rattle.std.specs.Prelude.{◌∷◌, codes, IfSome};
 ghost use Rattle.json.specs.Token as spec;
 ghost use Rattle.serde_json.specs.Data.{Data};
-ghost use Rattle.simulator.specs.Lives.{life_in};
-ghost use Rattle.simulator.specs.Scenarios.{Describes};
-ghost use Rattle.simulator.specs.Spelled.{SpellsValue, IsCold, IsBody, IsEnd};
+ghost use Rattle.simulator.specs.Scenarios.{IsReading, Describes, DescribesEnds};
+ghost use Rattle.simulator.specs.Spelled.{SpellsValue, IsCold, IsBody, IsEnd, IsLifeOf};
 
-use crate::driving::Course;
 use crate::lives::cold_value;
 use crate::one_pass::groups::lay_groups;
-use crate::one_pass::steps::take_steps;
+use crate::one_pass::steps::{TakenSteps, take_steps};
 use crate::one_pass::tokens::{any_key, begin_array, end_object, key, number};
 use crate::track::Track;
 use json::{Reader, Scratch, Token};
@@ -31,8 +29,8 @@ fn cold(reader: &mut Reader<'_>) -> Option<Cold>
 }
 
 // The groups, of which the key was taken, and the steps.
-fn body(alloc: Global, reader: &mut Reader<'_>) -> Option<StepList>
-    ensures { IfSome result (λ steps. IsBody (spec.key (codes "groups") ∷ reader.old) steps reader.new) }
+fn body(alloc: Global, reader: &mut Reader<'_>, with_ends: bool) -> Option<TakenSteps>
+    ensures { IfSome result (λ taken. IsBody (spec.key (codes "groups") ∷ reader.old) taken reader.new) }
 {
     begin_array(reader)?;
     let mut balises = Vec::new(alloc);
@@ -42,12 +40,7 @@ fn body(alloc: Global, reader: &mut Reader<'_>) -> Option<StepList>
     };
     key(reader, "steps")?;
     begin_array(reader)?;
-    let mut course = Course::new(alloc);
-    take_steps(alloc, reader, &track, &mut course)?;
-    match course.end() {
-        Ok(steps) => Some(steps),
-        Err(_) => None,
-    }
+    take_steps(alloc, reader, &track, with_ends)
 }
 
 // The end of the object, perhaps after a value of `cold`.
@@ -66,29 +59,29 @@ fn end(reader: &mut Reader<'_>) -> Option<Cold>
 }
 
 // The life that an object asks for, of which the brace was taken.
-fn life(alloc: Global, reader: &mut Reader<'_>) -> Option<(Cold, StepList)>
+fn life(alloc: Global, reader: &mut Reader<'_>, with_ends: bool) -> Option<(Cold, TakenSteps)>
     ensures { IfSome result (λ life. (d : Data) × SpellsValue 4 (spec.begin_object ∷ reader.old) d reader.new
-        × (life_in d ≡ Ok (life.0, life.1))) }
+        × IsLifeOf d life.0 life.1) }
 {
     let name = any_key(reader)?;
     if name == "groups" {
-        let steps = body(alloc, reader)?;
+        let taken = body(alloc, reader, with_ends)?;
         let cold = end(reader)?;
-        Some((cold, steps))
+        Some((cold, taken))
     } else if name == "cold" {
         let first = cold(reader)?;
         key(reader, "groups")?;
-        let lived = body(alloc, reader)?;
+        let taken = body(alloc, reader, with_ends)?;
         end_object(reader)?;
-        Some((first, lived))
+        Some((first, taken))
     } else {
         None
     }
 }
 
-/// The life that a text in this form asks for.
-pub(crate) fn life_by_tokens(alloc: Global, bytes: &[u8]) -> Option<(Cold, StepList)>
-    ensures { IfSome result (λ life. Describes bytes.now life.0 life.1) }
+// The life that a text in this form asks for, and its ends where they are asked for.
+fn read(alloc: Global, bytes: &[u8], with_ends: bool) -> Option<(Cold, TakenSteps)>
+    ensures { IfSome result (λ life. (d : Data) × IsReading bytes.now d × IsLifeOf d life.0 life.1) }
 {
     let Ok(text) = simdutf8::basic::from_utf8(bytes) else {
         return None;
@@ -100,9 +93,25 @@ pub(crate) fn life_by_tokens(alloc: Global, bytes: &[u8]) -> Option<(Cold, StepL
     let Token::BeginObject = reader.next()? else {
         return None;
     };
-    let life = life(alloc, &mut reader)?;
+    let life = life(alloc, &mut reader, with_ends)?;
     match reader.next() {
         None => Some(life),
         Some(_) => None,
     }
+}
+
+/// The life that a text in this form asks for.
+pub(crate) fn life_by_tokens(alloc: Global, bytes: &[u8]) -> Option<(Cold, StepList)>
+    ensures { IfSome result (λ life. Describes bytes.now life.0 life.1) }
+{
+    let (cold, taken) = read(alloc, bytes, false)?;
+    Some((cold, taken.steps))
+}
+
+/// Of each step of a text in this form, how many steps of its life there are up to its end.
+pub(crate) fn ends_by_tokens(alloc: Global, bytes: &[u8]) -> Option<Vec<usize>>
+    ensures { IfSome result (λ ends. DescribesEnds bytes.now ends.items) }
+{
+    let (_, taken) = read(alloc, bytes, true)?;
+    taken.ends
 }

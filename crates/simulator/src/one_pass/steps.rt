@@ -1,14 +1,13 @@
 //! The steps of a scenario, taken as their tokens come.
-ghost use Rattle.std.specs.Prelude.{◌≡◌, ◌∷◌, ◌^◌, pos, neg_ℤ, ◌≤ℤ◌, ◌+ℤ◌, Ok, List, IfSome, OnSome};
+ghost use Rattle.std.specs.Prelude.{◌≡◌, ◌∷◌, ◌++◌, ◌^◌, pos, neg_ℤ, ◌≤ℤ◌, ◌+ℤ◌, Ok, List, [], option_map, IfSome, OnSome};
 ghost use Rattle.json.specs.Reads.{token_of};
 ghost use Rattle.json.specs.Token as spec;
 ghost use Rattle.json_values.specs.Shapes.{list_of};
 ghost use Rattle.serde_json.specs.Data.{Data, Items};
 ghost use Rattle.serde_json.specs.View.{view, items_view};
 ghost use Rattle.simulator.specs.Course.{run_of, taken};
-ghost use Rattle.simulator.specs.Lives.{lived};
 ghost use Rattle.simulator.specs.Passing.{passed};
-ghost use Rattle.simulator.specs.Spelled.{SpellsItems, SpellsValue, Asks};
+ghost use Rattle.simulator.specs.Spelled.{SpellsItems, SpellsValue, Asks, AreTaken};
 ghost use Rattle.simulator.specs.Steps.{drive, telegram, clock, driver, flush, step_of};
 ghost use Rattle.simulator.specs.declared.step_kinds.StepKind.{StepKind};
 ghost use Rattle.simulator.specs.declared.step_kinds.StepKind.TheVariants.{Drive, Happens, Flush};
@@ -28,6 +27,7 @@ use json::{Reader, Token};
 use json_values::digits;
 use serde_json::Value;
 use std::alloc::Global;
+use step_list::StepList;
 use units::{LONGEST_LIFE, Mph, Ms};
 
 #[inline(always)]
@@ -196,24 +196,61 @@ fn take_step(
     }
 }
 
+/// The steps of a life, and of each step of its scenario how many of them there are up to its end, where that is asked.
+#[derive(Drop)]
+pub(crate) struct TakenSteps {
+    pub(crate) steps: StepList,
+    pub(crate) ends: Option<Vec<usize>>,
+}
+
+// No ends yet: a list for them, where they are asked for.
+fn no_ends(alloc: Global, with_ends: bool) -> Option<Vec<usize>>
+    ensures { IfSome result (λ ends. ends.items ≡ []) }
+{
+    if with_ends {
+        Some(Vec::new(alloc))
+    } else {
+        None
+    }
+}
+
+// Adds how many steps there are so far, where ends are kept.
+#[inline(always)]
+fn note(ends: &mut Option<Vec<usize>>, count: usize) -> Option<()>
+    ensures { OnSome result (option_map (λ kept. kept.items) ends.new
+        ≡ option_map (λ kept. kept.items ++ count ∷ []) ends.old) }
+{
+    match ends {
+        Some(kept) => kept.push(count).ok(),
+        None => Some(()),
+    }
+}
+
 /// Takes all steps, up to the end of their list.
 pub(crate) fn take_steps(
     alloc: Global,
     reader: &mut Reader<'_>,
     track: &Track,
-    course: &mut Course,
-) -> Option<()>
-    requires here { course.old.front ≡ pos 0 }
-    ensures { OnSome result ((ds : Items) × SpellsItems 2 reader.old ds reader.new
-        × (lived (passed track.now.balises.items) (list_of ds) (run_of course.old) ≡ Ok (run_of course.new))) }
+    with_ends: bool,
+) -> Option<TakenSteps>
+    ensures { IfSome result (λ steps. (ds : Items) × SpellsItems 2 reader.old ds reader.new
+        × AreTaken (passed track.now.balises.items) (list_of ds) steps) }
 {
+    let mut course = Course::new(alloc);
+    let mut ends = no_ends(alloc, with_ends);
     let mut count: u64 = 0;
     'steps: loop {
         match reader.next()? {
-            Token::EndArray => return Some(()),
-            Token::BeginObject => take_step(alloc, reader, track, course)?,
+            Token::EndArray => {
+                let Ok(steps) = course.end() else {
+                    return None;
+                };
+                return Some(TakenSteps { steps, ends });
+            }
+            Token::BeginObject => take_step(alloc, reader, track, &mut course)?,
             _ => return None,
         }
+        note(&mut ends, course.steps.len())?;
         // No text has so many steps.
         if count == u64::MAX {
             return None;

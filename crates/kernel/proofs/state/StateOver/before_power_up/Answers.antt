@@ -7,6 +7,7 @@ returns-clause-waits g c = record {
     parts_are = c.new.ensures.before;
     supervision_is = c.new-2.ensures.stands;
     carried_is = tt;
+    still_is = tt;
   };
   counts_are = refl;
 }

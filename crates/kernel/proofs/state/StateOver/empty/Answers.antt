@@ -13,6 +13,6 @@ returns-clause-stands g c =
     let supervised = subst (λ (k : Kept). StandsForLife g.T.ProfileStores.stores c.new-2.result (record { kept = k; cold = cold.Unknown; entries = [] }))
     c.nothing.ensures c.new-2.ensures.stands in
     record {
-      life_is = record { parts_are = λ i. record { window = window i; limit = limit i; position = Unknown }; supervision_is = supervised; carried_is = tt };
+      life_is = record { parts_are = λ i. record { window = window i; limit = limit i; position = Unknown }; supervision_is = supervised; carried_is = tt; still_is = tt };
       counts_are = refl;
     }

@@ -10,7 +10,7 @@ pub returns-clause-life : goal.returns-clause-life
 returns-clause-life g c kept cold waits =
     let before = seen c.self.view_is waits.life_is in
     let same : parts_of (record { kept = kept; cold = cold; entries = [] }) ≡ parts_of (initial_life kept cold) = refl in
-    record { parts_are = before.parts_are ∙ same; supervision_is = c.set_out.ensures.stands kept cold before.supervision_is; carried_is = tt }
+    record { parts_are = before.parts_are ∙ same; supervision_is = c.set_out.ensures.stands kept cold before.supervision_is; carried_is = tt; still_is = tt }
 
 pub returns-clause-counts : goal.returns-clause-counts
 returns-clause-counts g c cold =

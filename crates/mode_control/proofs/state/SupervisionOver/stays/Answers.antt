@@ -1,17 +1,12 @@
-use Rattle.std.proofs.Common.{◌≡◌, rules, ap, subst, ◌∙◌}
+use Rattle.std.proofs.Common.{rules, ap, ◌∙◌}
 use Rattle.areas.specs.Areas.{any_met}
-use Rattle.mode_table.specs.declared.conditions.Conditions.{Conditions}
-use Rattle.mode_table.specs.declared.mode.Mode.{Mode}
-use Rattle.mode_table.specs.Rows.{next_mode}
 use Rattle.vars.specs.declared.level.AreaMode.TheVariants as area
 use Rattle.mode_control.specs.Conditions.{conditions}
 use Rattle.mode_control.specs.Life.{track_of}
 use Rattle.mode_control.specs.StandsFor.{KnownModes}
+use Rattle.mode_control.proofs.Keeping.{kept}
 use Rattle.mode_control.proofs.Standing.{seen}
 use Rattle.mode_control.proofs.state.SupervisionOver.stays.Goals as goal
-
-kept : {m mode : Mode} {all some : Conditions} → m ≡ mode → all ≡ some → next_mode m some ≡ m → next_mode mode all ≡ mode
-kept {m} {mode} {all} is same stays = subst (λ (x : Mode). next_mode x all ≡ x) is (ap (next_mode m) same ∙ stays)
 
 pub returns-then-waits_for_driver : goal.returns-then-waits_for_driver
 returns-then-waits_for_driver g c life s so =

@@ -1,7 +1,7 @@
 use Rattle.std.proofs.Common.{sym, ap, ◌∙◌, arith}
 use Rattle.json.specs.Lex.{tokens}
 use Rattle.simulator.proofs.Spelled.{known, starts, ends, read_whole}
-use Rattle.simulator.proofs.one_pass.life.life_by_tokens.Goals as goal
+use Rattle.simulator.proofs.one_pass.life.read.Goals as goal
 
 pub returns-in-None : goal.returns-in-None
 returns-in-None c =

@@ -14,17 +14,17 @@ use Rattle.examination.specs.declared.state.SlotState.TheVariants as a_state
 use Rattle.examination.specs.declared.survey.Survey.{Survey}
 use Rattle.journal.specs.declared.opening.Found.{Found}
 use Rattle.lab_examine.specs.declared.file_facts.FileFacts.{FileFacts}
-use Rattle.lab_examine.specs.declared.line.BetweenLine.TheVariants as a_between
-use Rattle.lab_examine.specs.declared.line.BlockFacts.{BlockFacts}
+use Rattle.lab_examine.specs.declared.line.between.BetweenLine.TheVariants as a_between
+use Rattle.lab_examine.specs.declared.line.slot.BlockFacts.{BlockFacts}
 use Rattle.lab_examine.specs.declared.line.ExamineLine.{ExamineLine}
 use Rattle.lab_examine.specs.declared.line.ExamineLine.TheVariants as a_line
-use Rattle.lab_examine.specs.declared.line.JournalObject.{JournalObject}
-use Rattle.lab_examine.specs.declared.line.SectorObject.{SectorObject}
-use Rattle.lab_examine.specs.declared.line.SectorState.TheVariants as a_sector
-use Rattle.lab_examine.specs.declared.line.SlotContent.{SlotContent}
-use Rattle.lab_examine.specs.declared.line.SlotContent.TheVariants as a_content
-use Rattle.lab_examine.specs.declared.line.SlotPlace.{SlotPlace}
-use Rattle.lab_examine.specs.declared.line.UnreadableBlock.{UnreadableBlock}
+use Rattle.lab_examine.specs.declared.line.opening.JournalObject.{JournalObject}
+use Rattle.lab_examine.specs.declared.line.image.SectorObject.{SectorObject}
+use Rattle.lab_examine.specs.declared.line.image.SectorState.TheVariants as a_sector
+use Rattle.lab_examine.specs.declared.line.slot.SlotContent.{SlotContent}
+use Rattle.lab_examine.specs.declared.line.slot.SlotContent.TheVariants as a_content
+use Rattle.lab_examine.specs.declared.line.slot.SlotPlace.{SlotPlace}
+use Rattle.lab_examine.specs.declared.line.slot.UnreadableBlock.{UnreadableBlock}
 use Rattle.lab_examine.specs.declared.opening.JournalFacts.{JournalFacts}
 use Rattle.lab_examine.specs.declared.opening.Opened.{Opened}
 

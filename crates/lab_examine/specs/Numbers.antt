@@ -12,8 +12,8 @@ use Rattle.line_sinks.specs.Sinks.{some_lines}
 use Rattle.lab_examine.specs.Lines.{lost_line}
 use Rattle.lab_examine.specs.Walks.{contradicts}
 use Rattle.lab_examine.specs.declared.between.Walk.{Walk}
-use Rattle.lab_examine.specs.declared.line.BetweenLine.{BetweenLine}
-use Rattle.lab_examine.specs.declared.line.BetweenLine.TheVariants as a_between
+use Rattle.lab_examine.specs.declared.line.between.BetweenLine.{BetweenLine}
+use Rattle.lab_examine.specs.declared.line.between.BetweenLine.TheVariants as a_between
 use Rattle.lab_examine.specs.declared.line.ExamineLine.{ExamineLine}
 use Rattle.lab_examine.specs.declared.line.ExamineLine.TheVariants as a_line
 use Rattle.lab_examine.specs.declared.slots.Ring.{Ring}

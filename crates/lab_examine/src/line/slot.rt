@@ -1,0 +1,192 @@
+//! The line of a slot.
+ghost use Rattle.std.specs.Prelude.{◌≡◌, ◌<◌, ◌^◌};
+ghost use Rattle.lab_examine.specs.Lines.{facts_of, is_in_journal, unreadable_block, content_of, slot_line};
+
+use crate::line::ExamineLine;
+use crate::names::{write_field, write_format};
+use blocks::{Block, Format};
+use examination::{Fault, FieldName, Slot, SlotState, first_event};
+use serde::Serialize;
+
+/// What a block reports of itself.
+#[derive(Drop, Serialize)]
+pub struct BlockFacts {
+    /// Its number.
+    pub block: u64,
+    /// Its format.
+    #[serde(serialize_with = "write_format")]
+    pub format: Format,
+    /// The number of the last life in it.
+    pub life: u32,
+    /// The number of its first event.
+    pub first_event: u64,
+    /// The number of its last event.
+    pub last_event: u64,
+}
+
+/// A block that belongs to its slot.
+#[derive(Drop, Serialize)]
+pub struct OwnBlock {
+    /// The block.
+    #[serde(flatten)]
+    pub facts: BlockFacts,
+    /// Whether the gate is the one that is written for its number.
+    pub gate_is_own: bool,
+    /// Whether the journal has it; else it is before a gap.
+    pub in_journal: bool,
+}
+
+/// What is no block, but begins with a number that belongs to the slot.
+#[derive(Drop, Serialize)]
+pub struct UnreadableBlock {
+    /// That number.
+    pub block: u64,
+    /// The first wrong field; there always is one.
+    #[serde(serialize_with = "write_field")]
+    pub field: Option<FieldName>,
+    /// The number of the record with this field; None in the head and after the records.
+    pub record: Option<u8>,
+    /// The offset of the field in the file, in bytes.
+    pub byte: Option<u64>,
+}
+
+/// What begins with a number that belongs to another slot.
+#[derive(Drop, Serialize)]
+pub struct MisplacedBlock {
+    /// That number.
+    pub block: u64,
+    /// Whether its own slot holds the block too.
+    pub also_in_its_slot: bool,
+}
+
+/// What a slot holds.
+#[derive(Drop, Serialize)]
+#[serde(tag = "state", rename_all = "snake_case")]
+pub enum SlotContent {
+    /// The gate is open, and a block of this slot is after it.
+    Block(OwnBlock),
+    /// The gate is open, and a number of this slot but no block is after it.
+    Unreadable(UnreadableBlock),
+    /// The gate is open, and a number of another slot is after it.
+    Misplaced(MisplacedBlock),
+    /// The gate is open, and no mark and number is after it.
+    Foreign,
+    /// The gate is closed, and the block after the newest is after it.
+    Unwritten(BlockFacts),
+    /// The gate is closed, and another block of this slot is after it.
+    Replaced(BlockFacts),
+    /// The gate is closed, and neither zeros nor a block of this slot are after it.
+    Remains,
+}
+
+/// A slot that isn't empty.
+#[derive(Drop, Serialize)]
+pub struct SlotLine {
+    /// Its number.
+    pub slot: u64,
+    /// The first of its sectors.
+    pub first_sector: u64,
+    /// The last of its sectors.
+    pub last_sector: u64,
+    /// What it holds.
+    #[serde(flatten)]
+    pub content: SlotContent,
+}
+
+/// What is reported of a slot along with what it holds.
+#[derive(Clone, Copy)]
+pub(crate) struct SlotPlace {
+    /// Its number.
+    pub(crate) slot: u64,
+    /// The number of the oldest block of the journal, 0 where the image has none.
+    pub(crate) first: u64,
+    /// Whether the slot that a misplaced number belongs to holds that block too.
+    pub(crate) twice: bool,
+}
+
+// What a block of this number reports of itself.
+fn facts_of(number: u64, block: &Block) -> BlockFacts
+    ensures { result ≡ facts_of number block.now }
+{
+    BlockFacts {
+        block: number,
+        format: block.format,
+        life: block.kept.lives,
+        first_event: first_event(block),
+        last_event: block.kept.events.saturating_sub(1),
+    }
+}
+
+// Whether the journal has the block of this number, where its oldest is the first one, which is 0 where there is none.
+fn is_in_journal(first: u64, number: u64) -> bool
+    ensures { result ≡ is_in_journal first number }
+{
+    first != 0 && first <= number
+}
+
+// What begins with this number, with its first wrong field.
+fn unreadable_block(slot: u64, number: u64, fault: Option<Fault>) -> UnreadableBlock
+    requires { slot < 2 ^ 32 }
+    ensures { result ≡ unreadable_block slot number fault }
+{
+    let Some(fault) = fault else {
+        return UnreadableBlock {
+            block: number,
+            field: None,
+            record: None,
+            byte: None,
+        };
+    };
+    UnreadableBlock {
+        block: number,
+        field: Some(fault.name),
+        record: if fault.place == 0 {
+            None
+        } else {
+            Some(fault.place)
+        },
+        byte: Some(512 * (2 + 6 * slot) + u64::from(fault.at)),
+    }
+}
+
+// What a slot holds; None where it is empty.
+fn content_of(place: SlotPlace, seen: Slot, block: &Block) -> Option<SlotContent>
+    requires { place.slot < 2 ^ 32 }
+    ensures { result ≡ content_of place seen block.now }
+{
+    match seen.state {
+        SlotState::Block(number) => Some(SlotContent::Block(OwnBlock {
+            facts: facts_of(number, block),
+            gate_is_own: seen.is_sound,
+            in_journal: is_in_journal(place.first, number),
+        })),
+        SlotState::Unreadable(number) => Some(SlotContent::Unreadable(unreadable_block(
+            place.slot, number, seen.fault,
+        ))),
+        SlotState::Misplaced(number) => Some(SlotContent::Misplaced(MisplacedBlock {
+            block: number,
+            also_in_its_slot: place.twice,
+        })),
+        SlotState::Foreign => Some(SlotContent::Foreign),
+        SlotState::Unwritten(number) => Some(SlotContent::Unwritten(facts_of(number, block))),
+        SlotState::Replaced(number) => Some(SlotContent::Replaced(facts_of(number, block))),
+        SlotState::Remains => Some(SlotContent::Remains),
+        SlotState::Empty => None,
+    }
+}
+
+/// The line of a slot, if it isn't empty.
+pub(crate) fn slot_line(place: SlotPlace, seen: Slot, block: &Block) -> Option<ExamineLine>
+    requires { place.slot < 2 ^ 32 }
+    ensures { result ≡ slot_line place seen block.now }
+{
+    match content_of(place, seen, block) {
+        Some(content) => Some(ExamineLine::Slot(SlotLine {
+            slot: place.slot,
+            first_sector: 1 + 6 * place.slot,
+            last_sector: 6 + 6 * place.slot,
+            content,
+        })),
+        None => None,
+    }
+}

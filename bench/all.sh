@@ -7,7 +7,7 @@
 #     bench/all.sh --help               print this
 #
 # The output of the builds goes to bench/out/said. With UNPROVED=yes the parts that support it compile the product without a
-# proof (bench/unproved); their rows are kept apart.
+# proof (tools/unproved); their rows are kept apart.
 top=$(cd "$(dirname "$(readlink -f -- "$0")")/.." && pwd) || exit 1
 . "$top/bench/usage"
 out=$top/bench/out

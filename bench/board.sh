@@ -11,13 +11,13 @@
 set -e
 top=$(cd "$(dirname "$(readlink -f -- "$0")")/.." && pwd)
 . "$top/bench/usage"
-[ $# = 1 ] && [ -r "$1/lib/libetcs_unit_static.a" ] || wrong "$@"
+[ $# = 1 ] && [ -r "$1/lib/libetcs_unit_no_malloc.a" ] || wrong "$@"
 made=$(mktemp -d)
 trap 'rm -rf "$made"' EXIT
 board=$top/examples/bare_metal
 aarch64-linux-gnu-gcc -std=c11 -O2 -Wall -Wextra -Werror -Wconversion -Wsign-conversion -ffreestanding -nostdlib -static -no-pie \
     -Wl,--build-id=none,--no-warn-rwx-segments -I "$1/include" -I "$top/tests/targets" -I "$board" "$board/start.S" -T "$board/board.ld" \
-    "$top/bench/board.c" "$1/lib/libetcs_unit_static.a" -o "$made/board.elf"
+    "$top/bench/board.c" "$1/lib/libetcs_unit_no_malloc.a" -o "$made/board.elf"
 "$top/bench/worst_search.py" --kept >"$made/scenarios"
 timeout 600 qemu-system-aarch64 -M virt -cpu cortex-a53 -m 256 -icount shift=0 -display none -monitor none -nic none -serial "file:$made/printed" \
     -kernel "$made/board.elf" -device loader,file="$made/scenarios",addr=0x48000000,force-raw=on

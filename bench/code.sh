@@ -6,7 +6,7 @@
 #     bench/code.sh --help                        print this
 top=$(cd "$(dirname "$(readlink -f -- "$0")")/.." && pwd) || exit 1
 . "$top/bench/usage"
-archive=${1:-}/lib/libetcs_unit_static.a
+archive=${1:-}/lib/libetcs_unit_no_malloc.a
 [ $# -ge 1 ] && [ -r "$archive" ] || wrong "$@"
 made=$(mktemp -d) || exit 1
 trap 'rm -rf "$made"' EXIT

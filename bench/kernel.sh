@@ -22,7 +22,7 @@ mkdir -p "$out"
 library=$out/libbench_kernel.a
 if [ -n "${UNPROVED:-}" ]; then
     library=$out/kernel.o
-    "$top/bench/unproved" kernel "$library" >&2
+    "$top/tools/unproved" kernel "$library" >&2
 else
     "$top/bench/library" kernel >&2
 fi

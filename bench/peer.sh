@@ -9,7 +9,7 @@
 # Both have to print the same lines and write the same images (bench/peer_check.py). Then callgrind counts both in the same run:
 # events of whole runs (run.sh), single calls of the kernel (kernel.sh), telegrams, blocks, commits and the unit over a disk in
 # memory (rows.sh), and a reading where restrictions and gradients double (worst.sh --grown). With UNPROVED=yes the product is
-# compiled without a proof (bench/unproved).
+# compiled without a proof (tools/unproved).
 top=$(cd "$(dirname "$(readlink -f -- "$0")")/.." && pwd) || exit 1
 . "$top/bench/usage"
 case $#${1:-} in 0|1--build) ;; *) wrong "$@" ;; esac
@@ -20,7 +20,7 @@ mkdir -p "$out"
 ETCS=${ETCS:-$top/crates/etcs/out/etcs}
 if [ -n "${UNPROVED:-}" ] && [ "$ETCS" = "$top/crates/etcs/out/etcs" ]; then
     ETCS=$out/etcs
-    "$top/bench/unproved" etcs "$ETCS" >&2 || exit 1
+    "$top/tools/unproved" etcs "$ETCS" >&2 || exit 1
 fi
 export ETCS
 /usr/bin/python3 "$top/bench/peer_check.py" "$ETCS" "$out/peer/release/etcs_peer" >&2 || exit 1

@@ -11,7 +11,7 @@
 #
 # The time is processor time, of the program and of the system, since the machine may have other work; the ways take turns, and
 # the minimum counts. Then the instructions of an event by callgrind, of the first three: what 40 scenarios take less what 20 take;
-# for C without the reading of the calls. The peer has to print the same lines, and C to give the same limits. All is compiled without a proof (bench/unproved),
+# for C without the reading of the calls. The peer has to print the same lines, and C to give the same limits. All is compiled without a proof (tools/unproved),
 # except programs that ETCS and ETCS_LAB name, and a libetcs_unit.a that ETCS_UNIT names.
 set -e
 top=$(cd "$(dirname "$(readlink -f -- "$0")")/.." && pwd)
@@ -21,9 +21,9 @@ out=$top/bench/out
 memory=$(dirname "$(rt doc)")/c/liblibc_c.a
 scenarios=${1:-2000} turns=${2:-3} slots=${SLOTS:-16}
 mkdir -p "$out"
-[ -n "$ETCS" ] || { "$top/bench/unproved" etcs "$out/etcs" >&2; ETCS=$out/etcs; }
-[ -n "$ETCS_LAB" ] || { "$top/bench/unproved" etcs_lab "$out/etcs_lab" >&2; ETCS_LAB=$out/etcs_lab; }
-[ -n "$ETCS_UNIT" ] || { "$top/bench/unproved" etcs_unit "$out/etcs_unit.o" >&2; ETCS_UNIT=$out/etcs_unit.o; }
+[ -n "$ETCS" ] || { "$top/tools/unproved" etcs "$out/etcs" >&2; ETCS=$out/etcs; }
+[ -n "$ETCS_LAB" ] || { "$top/tools/unproved" etcs_lab "$out/etcs_lab" >&2; ETCS_LAB=$out/etcs_lab; }
+[ -n "$ETCS_UNIT" ] || { "$top/tools/unproved" etcs_unit "$out/etcs_unit.o" >&2; ETCS_UNIT=$out/etcs_unit.o; }
 "$top/bench/peer.sh" --build
 PEER=$out/peer/release/etcs_peer
 gcc -std=gnu99 -O2 -g -I "$top/include" "$top/bench/play.c" "$ETCS_UNIT" "$memory" -o "$out/play"

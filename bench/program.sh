@@ -6,14 +6,14 @@
 #     bench/program.sh --help     print this
 #
 # The peer has to print the same and leave the same image. The proved program must exist (./etcs --prove); with UNPROVED=yes one is
-# compiled without a proof (bench/unproved).
+# compiled without a proof (tools/unproved).
 top=$(cd "$(dirname "$(readlink -f -- "$0")")/.." && pwd) || exit 1
 . "$top/bench/usage"
 numbers 1 "$@"
 program=$top/crates/etcs/out/etcs
 if [ -n "${UNPROVED:-}" ]; then
     program=$top/bench/out/etcs
-    mkdir -p "$top/bench/out" && "$top/bench/unproved" etcs "$program" >&2 || exit 1
+    mkdir -p "$top/bench/out" && "$top/tools/unproved" etcs "$program" >&2 || exit 1
 fi
 [ -x "$program" ] || { echo "there is no program $program: rt ci or ./etcs --prove makes it"; exit 1; }
 "$top/bench/peer.sh" --build >&2 || exit 1

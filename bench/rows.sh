@@ -7,7 +7,7 @@
 #
 # A telegram's call counts with the loop around it; a block, a commit and an event of the unit only within their function, with all
 # that it calls, on slots that are used again. Making the records of a commit doesn't count. With UNPROVED=yes the product is
-# compiled without a proof (bench/unproved). It builds what it needs first; the output of the builds goes to standard error.
+# compiled without a proof (tools/unproved). It builds what it needs first; the output of the builds goes to standard error.
 top=$(cd "$(dirname "$(readlink -f -- "$0")")/.." && pwd) || exit 1
 . "$top/bench/usage"
 numbers 0 "$@"
@@ -21,7 +21,7 @@ built() {
     local library=$out/libbench_$1.a
     if [ -n "${UNPROVED:-}" ]; then
         library=$out/$1.calls.o
-        "$top/bench/unproved" "$1" "$library" >&2 || return 1
+        "$top/tools/unproved" "$1" "$library" >&2 || return 1
     else
         "$top/bench/library" "$1" >&2 || return 1
     fi

@@ -8,7 +8,7 @@
 # In a run the scenario is parsed as JSON, the life goes over a file whose slots are used again, and each output is printed.
 # callgrind counts the whole process without the system; the count is a run of twice as many events less one of EVENTS, divided by
 # EVENTS. Both have to print the same lines and leave the same image. The proved program must exist (./etcs --prove); with
-# UNPROVED=yes one is compiled without a proof (bench/unproved).
+# UNPROVED=yes one is compiled without a proof (tools/unproved).
 top=$(cd "$(dirname "$(readlink -f -- "$0")")/.." && pwd) || exit 1
 . "$top/bench/usage"
 numbers 1 "$@"
@@ -18,7 +18,7 @@ events=${1:-2000}
 mkdir -p "$out"
 if [ -n "${UNPROVED:-}" ] && [ -z "${ETCS:-}" ]; then
     program=$out/etcs
-    "$top/bench/unproved" etcs "$program" >&2 || exit 1
+    "$top/tools/unproved" etcs "$program" >&2 || exit 1
 fi
 [ -x "$program" ] || { echo "there is no program $program: rt ci or ./etcs --prove makes it"; exit 1; }
 "$top/bench/peer.sh" --build >&2 || exit 1

@@ -9,7 +9,7 @@
 # An accept in Rattle is a function of bench/calls/relayed that makes the input from the same numbers and gives it to the same kind
 # of unit. The count is what callgrind counts for 48 batches less what it counts for 24, divided by their events, as in
 # bench/rows.sh. Only the static library has the names of its functions. With UNPROVED=yes all is compiled without a proof
-# (bench/unproved), and there is no PREFIX.
+# (tools/unproved), and there is no PREFIX.
 set -e
 top=$(cd "$(dirname "$(readlink -f -- "$0")")/.." && pwd)
 . "$top/bench/usage"
@@ -19,10 +19,10 @@ out=$top/bench/out
 memory=$(dirname "$(rt doc)")/c/liblibc_c.a
 mkdir -p "$out"
 if [ -n "${UNPROVED:-}" ]; then
-    "$top/bench/unproved" etcs_unit "$out/etcs_unit.o" >&2
-    "$top/bench/unproved" etcs_c "$out/etcs_c.o" >&2
+    "$top/tools/unproved" etcs_unit "$out/etcs_unit.o" >&2
+    "$top/tools/unproved" etcs_c "$out/etcs_c.o" >&2
     gcc -std=c99 -O2 -g -I "$top/include" "$top/bench/unit.c" "$out/etcs_unit.o" "$out/etcs_c.o" "$memory" -o "$out/unit"
-    "$top/bench/unproved" relayed "$out/relayed.o" >&2
+    "$top/tools/unproved" relayed "$out/relayed.o" >&2
     gcc -O2 -g "$top/bench/relayed.c" "$out/relayed.o" "$memory" -o "$out/relayed"
 else
     prefix=$(cd "$1" && pwd)

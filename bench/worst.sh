@@ -29,7 +29,7 @@ mkdir -p "$out"
 library=$top/crates/etcs_unit/out/libetcs_unit.a
 if [ -n "${UNPROVED:-}" ]; then
     library=$out/etcs_unit.o
-    "$top/bench/unproved" etcs_unit "$library" >&2
+    "$top/tools/unproved" etcs_unit "$library" >&2
 else
     "$top/tools/build_c_library" etcs_unit >&2
 fi

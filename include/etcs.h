@@ -32,7 +32,7 @@ extern "C" {
 #define ETCS_MUST_USE
 #endif
 
-/** The bytes of a telegram, at most. */
+/** The bytes of a telegram, at most: its user bits (etcs_unit_telegram says which). */
 #define ETCS_TELEGRAM_BYTES 104
 
 /** Why bytes carry no telegram. TOO_LONG comes before all others; otherwise the reported fault is the first one in the

@@ -40,6 +40,10 @@ extern "C" {
 /** How often a cycle flushes, at most: so it takes up to 64 inputs. */
 #define ETCS_EXECUTIVE_FLUSHES 8
 
+/** The stack of each call below, in bytes, at most, with that of the unit's calls; what the functions of the equipment take comes
+ * on top. */
+#define ETCS_STACK_BYTES_EXECUTIVE 18432
+
 /** What each byte of the guard below the stack is painted with. */
 #define ETCS_STACK_PAINT 0xA5u
 

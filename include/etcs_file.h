@@ -67,11 +67,15 @@ enum etcs_file_answer {
     ETCS_FILE_LOCKED = 2,     /**< another program, or another handle of this one, holds a lock on it */
     ETCS_FILE_CANT_LOCK = 3,  /**< the lock can't be had for another reason, as where a file system has none */
     ETCS_FILE_CANT_READ = 4,  /**< the size or the bytes can't be read */
-    ETCS_FILE_CANT_WRITE = 5, /**< a write, or setting the length, failed */
+    ETCS_FILE_CANT_WRITE = 5, /**< a write, or setting the length, failed; in a format also where the disk is full */
     ETCS_FILE_CANT_SYNC = 6,  /**< a sync failed, of the file or its folder, or the system drops no copies of pages */
+    ETCS_FILE_NOT_EMPTY = 7,  /**< formatting: the first sector has other bytes than zeros, as a journal's; nothing was changed */
     ETCS_FILE_WRONG_SIZE = 8, /**< formatting: a device that hasn't just 1 + 6 * slots sectors */
     ETCS_FILE_UNIT = 9        /**< the unit refused; `status` says why */
 };
+
+/** The stack of each call below, in bytes, at most, with that of the unit's calls; what the system takes comes on top. */
+#define ETCS_STACK_BYTES_FILE 26624
 
 /** A file that is open, or was; all zeros before its first call. */
 typedef struct {
@@ -88,7 +92,7 @@ typedef struct {
  * numbers. */
 static inline const char *etcs_file_answer_name(uint32_t number) {
     static const char *const names[] = {
-        "OK", "CANT_OPEN", "LOCKED", "CANT_LOCK", "CANT_READ", "CANT_WRITE", "CANT_SYNC", NULL, "WRONG_SIZE",
+        "OK", "CANT_OPEN", "LOCKED", "CANT_LOCK", "CANT_READ", "CANT_WRITE", "CANT_SYNC", "NOT_EMPTY", "WRONG_SIZE",
         "UNIT", "NO_ARCHIVE", "NO_MARKS", "BAD_MARK"
     };
     return etcs_name_(names, (uint32_t)(sizeof names / sizeof names[0]), number);
@@ -268,20 +272,47 @@ static inline uint32_t etcs_file_open_(etcs_file *file, const char *path, etcs_u
     return answer == ETCS_FILE_OK ? etcs_file_power_up_(file, unit, cold) : answer;
 }
 
-/* Empties a file, gives it so many bytes of zeros, and syncs its folder; a device must have just so many. */
+/* Answers NOT_EMPTY where the first sector has other bytes than zeros: a journal, or what else nobody may lose. */
+static inline uint32_t etcs_file_is_empty_(etcs_file *file) {
+    uint8_t first[ETCS_UNIT_SECTOR];
+    const off_t end = lseek(file->descriptor, 0, SEEK_END);
+    if (end < 0)
+        return etcs_file_failed_(file, ETCS_FILE_CANT_READ);
+    const size_t len = (uint64_t)end < sizeof first ? (size_t)end : sizeof first;
+    const uint32_t answer = etcs_file_read_(file, first, len, 0);
+    size_t at = 0;
+    while (answer == ETCS_FILE_OK && at < len && first[at] == 0)
+        at++;
+    return answer == ETCS_FILE_OK && at < len ? (uint32_t)ETCS_FILE_NOT_EMPTY : answer;
+}
+
+/* Empties a file, and writes so many bytes of zeros to it: a length that is only set leaves holes, for which a flush may find
+ * no place on a disk that has become full. Where there is no place for them the file stays empty. */
+static inline uint32_t etcs_file_fill_(etcs_file *file, uint64_t len) {
+    static const uint8_t zeros[8 * ETCS_UNIT_SECTOR] = {0};
+    uint32_t answer = ETCS_FILE_OK;
+    if (ftruncate(file->descriptor, 0) != 0)
+        return etcs_file_failed_(file, ETCS_FILE_CANT_WRITE);
+    for (uint64_t at = 0; answer == ETCS_FILE_OK && at < len; at += sizeof zeros)
+        answer = etcs_file_write_(file, zeros, len - at < sizeof zeros ? (size_t)(len - at) : sizeof zeros, at);
+    if (answer != ETCS_FILE_OK)
+        (void)!ftruncate(file->descriptor, 0); /* (where that fails, the zeros stay) */
+    return answer;
+}
+
+/* Fills a file with so many bytes of zeros, and syncs its folder; a device must have just so many. */
 static inline uint32_t etcs_file_empty_(etcs_file *file, const char *path, off_t len) {
     struct stat info;
     if (fstat(file->descriptor, &info) != 0)
         return etcs_file_failed_(file, ETCS_FILE_CANT_READ);
     if (S_ISREG(info.st_mode)) {
-        if (ftruncate(file->descriptor, 0) != 0 || ftruncate(file->descriptor, len) != 0)
-            return etcs_file_failed_(file, ETCS_FILE_CANT_WRITE);
-        return etcs_file_sync_folder_(file, path);
+        const uint32_t answer = etcs_file_fill_(file, (uint64_t)len);
+        return answer == ETCS_FILE_OK ? etcs_file_sync_folder_(file, path) : answer;
     }
     return lseek(file->descriptor, 0, SEEK_END) == len ? ETCS_FILE_OK : ETCS_FILE_WRONG_SIZE;
 }
 
-static inline uint32_t etcs_file_format_(etcs_file *file, const char *path, uint32_t slots) {
+static inline uint32_t etcs_file_format_(etcs_file *file, const char *path, uint32_t slots, int wipes) {
     uint8_t bytes[ETCS_UNIT_SECTOR];
     etcs_unit_request_info request;
     /* Whether there can be so many slots is asked before the file is touched. */
@@ -289,6 +320,8 @@ static inline uint32_t etcs_file_format_(etcs_file *file, const char *path, uint
     if (status != ETCS_UNIT_OK)
         return etcs_file_status_(file, status);
     uint32_t answer = etcs_file_lock_(file, path, O_CREAT);
+    if (answer == ETCS_FILE_OK && !wipes)
+        answer = etcs_file_is_empty_(file);
     if (answer == ETCS_FILE_OK)
         answer = etcs_file_empty_(file, path, (off_t)(1 + 6 * (uint64_t)slots) * ETCS_UNIT_SECTOR);
     for (uint32_t index = 0; answer == ETCS_FILE_OK; index++) {
@@ -413,18 +446,32 @@ static inline int etcs_file_carry_out_request(void *file, const etcs_unit_reques
     return etcs_file_do_((etcs_file *)file, request, bytes) == ETCS_FILE_OK;
 }
 
-/** Makes the file an empty journal of this many slots, as `etcs format` does; what was in it is lost. Call it once, before
- * the first power-up. What is there is locked before it is emptied, and its folder is synced, so that the name of a new
- * file survives a loss of power. The file isn't open then. One that is open already stays so: UNIT (IS_OPEN). */
-ETCS_MUST_USE
-static inline uint32_t etcs_file_format(etcs_file *file, const char *path, uint32_t slots) {
+static inline uint32_t etcs_file_make_(etcs_file *file, const char *path, uint32_t slots, int wipes) {
     if (etcs_file_at_(file) >= 0)
         return etcs_file_is_open_(file);
     file->error = 0;
     file->status = ETCS_UNIT_OK;
-    const uint32_t answer = etcs_file_format_(file, path, slots);
+    const uint32_t answer = etcs_file_format_(file, path, slots, wipes);
     etcs_file_shut_(file);
     return answer;
+}
+
+/** Makes an empty journal of this many slots where there is none: of a file that is new, or empty, or whose first sector has
+ * only zeros, as where power was lost in a format. Each byte of the file is written, so that no flush needs more of the disk,
+ * where the file system writes in place. Where the first sector has anything else it answers NOT_EMPTY, and
+ * nothing was changed: so call it before the first power-up, or before each one, and go on to etcs_file_open where it
+ * answers OK or NOT_EMPTY. What is there is locked before it is read, and its folder is synced, so that the name of a new
+ * file survives a loss of power. The file isn't open then. One that is open already stays so: UNIT (IS_OPEN). */
+ETCS_MUST_USE
+static inline uint32_t etcs_file_format(etcs_file *file, const char *path, uint32_t slots) {
+    return etcs_file_make_(file, path, slots, 0);
+}
+
+/** Makes the file an empty journal of this many slots, whatever it holds: ALL EVENTS IN IT ARE LOST. Never call it at a
+ * power-up. For the rest it is as etcs_file_format. */
+ETCS_MUST_USE
+static inline uint32_t etcs_file_wipe(etcs_file *file, const char *path, uint32_t slots) {
+    return etcs_file_make_(file, path, slots, 1);
 }
 
 #ifdef __cplusplus

@@ -25,7 +25,9 @@
  *
  * - `size` bytes from `image` on may be read, and nobody writes to them while a call runs, this call neither: what is
  *   written to doesn't lie in them;
- * - each other pointer is good for what it points to, and nobody else writes there while the call runs.
+ * - each other pointer is good for what it points to, and nobody else writes there while the call runs;
+ * - each call has its stack, which is more than a unit's for those whose comment names a number: etcs_image_why takes
+ *   ETCS_STACK_BYTES_WHY. A thread with less crashes, or writes over other memory, on any image.
  *
  * What the bytes mean is in docs/reference/format.md. Sectors, slots, events and the records of a block are counted from 0, blocks
  * from 1. Places are centimetres, speeds metres per hour, moments milliseconds. An image may be cut off, or damaged at
@@ -39,6 +41,16 @@
 #ifdef __cplusplus
 extern "C" {
 #endif
+
+/** The stack of etcs_image_slot, etcs_image_block, etcs_image_record and etcs_journal_next, in bytes, at most (ETCS_STACK_BYTES
+ * says how far that is known). */
+#define ETCS_STACK_BYTES_IMAGE 24576
+
+/** The stack of etcs_image_replay. */
+#define ETCS_STACK_BYTES_REPLAY 70656
+
+/** The stack of etcs_image_why. */
+#define ETCS_STACK_BYTES_WHY 176128
 
 /** The bytes of a record's payload, at most. */
 #define ETCS_PAYLOAD_BYTES 104
@@ -291,7 +303,8 @@ static inline uint32_t etcs_image_facts(const uint8_t *image, size_t size, etcs_
     return ((image != NULL) && (facts != NULL)) ? etcs_image_facts_(image, size, ETCS_UNIT_ABI, facts) : (uint32_t)ETCS_UNIT_NULL_POINTER;
 }
 
-/** Reads what a slot holds; `newest` is the number of the newest block, from etcs_image_facts. Returns OK, OTHER_ABI,
+/** Reads what a slot holds; `newest` is the number of the newest block, from etcs_image_facts. It takes up to
+ * ETCS_STACK_BYTES_IMAGE of stack. Returns OK, OTHER_ABI,
  * IMAGE_NOT_FORMATTED, OUT_OF_RANGE (a newest number above 2^40), or NO_SUCH_SLOT. */
 static inline uint32_t etcs_image_slot(const uint8_t *image, size_t size, uint64_t newest, uint64_t slot, etcs_slot *found) {
     return ((image != NULL) && (found != NULL)) ? etcs_image_slot_(image, size, ETCS_UNIT_ABI, newest, slot, found) : (uint32_t)ETCS_UNIT_NULL_POINTER;
@@ -307,13 +320,14 @@ static inline uint32_t etcs_image_slot_start(const uint8_t *start, size_t size, 
     return ((start != NULL) && (found != NULL)) ? etcs_image_slot_start_(start, size, ETCS_UNIT_ABI, slots, slot, found) : (uint32_t)ETCS_UNIT_NULL_POINTER;
 }
 
-/** Reads the head of the block of this number. Returns OK, OTHER_ABI, IMAGE_NOT_FORMATTED, or NO_SUCH_BLOCK where its slot
- * doesn't hold it with an open gate. */
+/** Reads the head of the block of this number. It takes up to ETCS_STACK_BYTES_IMAGE of stack. Returns OK, OTHER_ABI,
+ * IMAGE_NOT_FORMATTED, or NO_SUCH_BLOCK where its slot doesn't hold it with an open gate. */
 static inline uint32_t etcs_image_block(const uint8_t *image, size_t size, uint64_t number, etcs_block *block) {
     return ((image != NULL) && (block != NULL)) ? etcs_image_block_(image, size, ETCS_UNIT_ABI, number, block) : (uint32_t)ETCS_UNIT_NULL_POINTER;
 }
 
-/** Reads a record of the block of this number. Returns OK, OTHER_ABI, IMAGE_NOT_FORMATTED, NO_SUCH_BLOCK, or NO_SUCH_RECORD. */
+/** Reads a record of the block of this number. It takes up to ETCS_STACK_BYTES_IMAGE of stack. Returns OK, OTHER_ABI,
+ * IMAGE_NOT_FORMATTED, NO_SUCH_BLOCK, or NO_SUCH_RECORD. */
 static inline uint32_t etcs_image_record(const uint8_t *image, size_t size, uint64_t number, uint32_t index, etcs_record *record) {
     return ((image != NULL) && (record != NULL)) ? etcs_image_record_(image, size, ETCS_UNIT_ABI, number, index, record) : (uint32_t)ETCS_UNIT_NULL_POINTER;
 }
@@ -326,9 +340,9 @@ static inline uint32_t etcs_journal_open(const uint8_t *image, size_t size, etcs
 }
 
 /** Reads the next record of the journal. Call it until it answers END. It reads one slot, and takes the same time whatever
- * size the image has. Returns OK, END, NOT_OPEN (a journal of zeros), OUT_OF_RANGE (one that no call left),
- * IMAGE_NOT_FORMATTED, NO_SUCH_RECORD (one of another image), or IMAGE_DAMAGED where a block of the journal can't be read:
- * then the journal is after that block, and the next call goes on there. */
+ * size the image has, and up to ETCS_STACK_BYTES_IMAGE of stack. Returns OK, END, NOT_OPEN (a journal of zeros),
+ * OUT_OF_RANGE (one that no call left), IMAGE_NOT_FORMATTED, NO_SUCH_RECORD (one of another image), or IMAGE_DAMAGED where
+ * a block of the journal can't be read: then the journal is after that block, and the next call goes on there. */
 static inline uint32_t etcs_journal_next(const uint8_t *image, size_t size, etcs_journal *journal, etcs_record *record) {
     return ((image != NULL) && (journal != NULL) && (record != NULL)) ? etcs_journal_next_(image, size, journal, record) : (uint32_t)ETCS_UNIT_NULL_POINTER;
 }
@@ -339,18 +353,18 @@ static inline uint32_t etcs_journal_next(const uint8_t *image, size_t size, etcs
  * what `etcs_lab replay` prints. The journal is then after what the line covers. An index after the last record of a block
  * is the place of its head; only this call leaves a journal there. AGREES means that the journal is consistent with this
  * kernel, not that it is authentic (crates/replaying/README.md). Each call takes as long as the life is up to the end of
- * the line. It takes memory. Returns OK, END, NOT_OPEN, OTHER_ABI, OUT_OF_RANGE, IMAGE_NOT_FORMATTED, IMAGE_DAMAGED where
- * the next block can't be read: then the journal is at the block after that one; or NO_MEMORY. With END and NO_MEMORY the
- * journal stays. */
+ * the line. It takes memory, and up to ETCS_STACK_BYTES_REPLAY of stack. Returns OK, END, NOT_OPEN, OTHER_ABI,
+ * OUT_OF_RANGE, IMAGE_NOT_FORMATTED, IMAGE_DAMAGED where the next block can't be read: then the journal is at the block
+ * after that one; or NO_MEMORY. With END and NO_MEMORY the journal stays. */
 static inline uint32_t etcs_image_replay(const uint8_t *image, size_t size, etcs_journal *journal, etcs_replay *replay) {
     return ((image != NULL) && (journal != NULL) && (replay != NULL)) ? etcs_image_replay_(image, size, ETCS_UNIT_ABI, journal, replay) : (uint32_t)ETCS_UNIT_NULL_POINTER;
 }
 
 /** Explains why the event of this number in the block of this number was answered as it was: its life is replayed from its
  * power-up to the event, also from a power-up within a block where the life before it in the block can be replayed.
- * etcs_journal_next gives both numbers of each record. It takes memory. Returns OK, OTHER_ABI, IMAGE_NOT_FORMATTED,
- * NO_SUCH_BLOCK, NO_SUCH_RECORD where the block has no such event, NOT_REPLAYED where what was kept before the life isn't
- * known (etcs_image_replay says why), or NO_MEMORY. */
+ * etcs_journal_next gives both numbers of each record. It takes memory, and up to ETCS_STACK_BYTES_WHY of stack. Returns
+ * OK, OTHER_ABI, IMAGE_NOT_FORMATTED, NO_SUCH_BLOCK, NO_SUCH_RECORD where the block has no such event, NOT_REPLAYED where
+ * what was kept before the life isn't known (etcs_image_replay says why), or NO_MEMORY. */
 static inline uint32_t etcs_image_why(const uint8_t *image, size_t size, uint64_t number, uint64_t event, etcs_why *why) {
     return ((image != NULL) && (why != NULL)) ? etcs_image_why_(image, size, ETCS_UNIT_ABI, number, event, why) : (uint32_t)ETCS_UNIT_NULL_POINTER;
 }

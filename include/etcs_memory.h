@@ -1,7 +1,7 @@
 /**
  * @file
  * Memory of the maker's own for the onboard unit: of the variant of the library that takes none from a C library
- * (libetcs_unit_static.a, and all libraries for machines without one).
+ * (libetcs_unit_no_malloc.a, and all libraries for machines without one).
  *
  *     static uint8_t arena[ETCS_MEMORY_BYTES(16, 32, 100, 100)];
  *

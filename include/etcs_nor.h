@@ -4,8 +4,6 @@
  * has an erase block, and the first sector has one before them. There is nothing to link but the library of etcs_unit.h.
  *
  *     static etcs_nor nor = {NULL, 4096, 1 + SLOTS, read_flash, program_flash, erase_flash, 0};
- *     if (etcs_nor_check_blocks(&nor) != ETCS_NOR_OK)
- *         refuse();
  *
  *     equipment.medium = &nor;
  *     equipment.sectors = 1 + 6 * SLOTS;
@@ -19,9 +17,10 @@
  * However large an erase block is, one slot has it, and the rest of it is unused: several slots can't share one. A loss of power
  * within a flush leaves a slot that can be written again only after an erasure, which would take the newest blocks with it. Where
  * erase blocks are smaller than ETCS_NOR_BLOCK_BYTES, several in turn count as one, and `erase` erases all of them.
- * etcs_nor_check_blocks refuses a flash whose blocks are others than `block_bytes` says.
+ * At set-up etcs_nor_check_blocks refuses a flash whose blocks are others than `block_bytes` says.
  *
- * Format it as any medium, by etcs_unit_format_request and etcs_nor_carry_out; the flash may hold anything.
+ * Format it as any medium, by etcs_unit_format_request and etcs_nor_carry_out, where its first sector isn't that of a
+ * journal already; all else may hold anything.
  *
  * A block holds the sectors of its slot, gate first, and then ETCS_NOR_READY where it is erased and unused. A loss of power
  * may leave any bytes where the flash was programmed or erased. So a gate counts as open only where at most
@@ -34,7 +33,7 @@
 #ifndef ETCS_NOR_H
 #define ETCS_NOR_H
 
-#include "etcs_unit.h"
+#include "etcs_image.h"
 
 #ifdef __cplusplus
 extern "C" {
@@ -75,7 +74,8 @@ enum etcs_nor_fault {
     ETCS_NOR_BAD_SIZE = 321,     /**< blocks of fewer bytes than ETCS_NOR_BLOCK_BYTES, or other than 3 to 1,048,577 blocks */
     ETCS_NOR_FAILED = 322,       /**< a read, a program or an erasure failed */
     ETCS_NOR_ERASED_LESS = 323,  /**< an erasure left bytes of its block */
-    ETCS_NOR_ERASED_MORE = 324   /**< an erasure took bytes of another block, or two places are the same one */
+    ETCS_NOR_ERASED_MORE = 324,  /**< an erasure took bytes of another block, or two places are the same one */
+    ETCS_NOR_HAS_JOURNAL = 325   /**< the first sector is that of a journal: nothing was changed */
 };
 
 /* Whether these eight bytes are the mark, but for so many bits. */
@@ -250,14 +250,28 @@ static inline uint32_t etcs_nor_is_tried_(const etcs_nor *nor, uint64_t block) {
     return fault;
 }
 
+/* Answers HAS_JOURNAL where the first sector is that of a journal. */
+static inline uint32_t etcs_nor_journal_(const etcs_nor *nor) {
+    uint8_t first[ETCS_UNIT_SECTOR];
+    etcs_image facts;
+    uint32_t fault = (uint32_t)ETCS_NOR_FAILED;
+    if (nor->read(nor->of, 0, first, sizeof first)) {
+        fault = (etcs_image_facts(first, sizeof first, &facts) == (uint32_t)ETCS_UNIT_OK) ? (uint32_t)ETCS_NOR_HAS_JOURNAL : (uint32_t)ETCS_NOR_OK;
+    }
+    return fault;
+}
+
 /** Checks that an erasure takes the block at its place, all of it and nothing else. Call it at set-up, before the formatting: IT
- * ERASES EVERYTHING, each block once. Returns enum etcs_nor_fault; after any answer but ETCS_NOR_OK don't use the flash. */
+ * ERASES EVERYTHING, each block once, unless the flash has a journal: erase its first block before where that is to go.
+ * Returns enum etcs_nor_fault; after any answer but ETCS_NOR_OK don't use the flash; HAS_JOURNAL says nothing of its blocks. */
 ETCS_MUST_USE
 static inline uint32_t etcs_nor_check_blocks(const etcs_nor *nor) {
     const uint64_t most = UINT64_C(1048577);
     uint32_t fault = (uint32_t)ETCS_NOR_OK;
     if ((nor->block_bytes < (uint64_t)ETCS_NOR_BLOCK_BYTES) || (nor->blocks < 3u) || (nor->blocks > most) || (nor->block_bytes > (UINT64_MAX / most))) {
         fault = (uint32_t)ETCS_NOR_BAD_SIZE;
+    } else {
+        fault = etcs_nor_journal_(nor);
     }
     for (uint64_t block = 0; (fault == (uint32_t)ETCS_NOR_OK) && (block < nor->blocks); block++) {
         fault = etcs_nor_try_(nor, block);

@@ -66,7 +66,9 @@
  * - a sector that is handed in is what the medium holds then, of which each request that was said to be done was carried
  *   out, and nobody but this unit writes there from its power-up until it is closed;
  * - requests are carried out in their order, each whole before the next one, and are said to be done only then;
- * - the value on movements without power is true (ETCS_COLD_UNKNOWN in doubt, and where a unit is opened after a fault).
+ * - the value on movements without power is true (ETCS_COLD_UNKNOWN in doubt, and where a unit is opened after a fault);
+ * - each call has its stack: ETCS_STACK_BYTES, where its comment names no other number. A stack that ends within a call is a
+ *   crash, or other memory is written over.
  *
  * A unit is for one call at a time. It may be handed from one task to another, as from the one that opens it to a cyclic
  * one, where a lock (or a queue, or the start of the task) orders their calls: the library keeps nothing except its units,
@@ -102,10 +104,16 @@ extern "C" {
 /** The number of this interface: counted up with each change that a caller can see. */
 #define ETCS_UNIT_ABI 6
 
-/** The bytes of the version, at most. */
+/** The version of the product that these headers are of: etcs_version returns that of the library. */
+#define ETCS_VERSION "0.1.0"
+
+/** The same as a number, to compare: 1,000,000 for the first part, 1,000 for the second, 1 for the third. */
+#define ETCS_VERSION_NUMBER 1000
+
+/** The bytes of the version with the zero at its end, at most. */
 #define ETCS_VERSION_BYTES 32
 
-/** The bytes of the description of a build, at most. */
+/** The bytes of the description of a build with the zero at its end, at most. */
 #define ETCS_BUILD_INFO_BYTES 160
 
 /** The bytes of a sector. */
@@ -116,6 +124,52 @@ extern "C" {
 
 /** The bytes that one request writes, at most. */
 #define ETCS_UNIT_REQUEST_BYTES 8192
+
+/** The stack of a call, in bytes, at most, where its comment names no other number. Code of other compilers, or for other
+ * processors, may need more: on x86-64 and aarch64 the tests hold the frames of the library's code to these numbers. What the C
+ * library takes (memcpy, malloc) comes on top. */
+#define ETCS_STACK_BYTES 16384
+
+/** The stack of etcs_unit_preview_telegram and etcs_unit_preview_odometer. */
+#define ETCS_STACK_BYTES_PREVIEW 106496
+
+/** The stack of etcs_telegram_unused. */
+#define ETCS_STACK_BYTES_UNUSED 36864
+
+/* ---- the limits of inputs: beyond them a call answers OUT_OF_RANGE */
+
+/** The movement of one reading, at most, forward or backward. */
+#define ETCS_MOVEMENT_CM_MOST 10000
+
+/** A speed, at most: of a reading, and of the train. */
+#define ETCS_SPEED_M_PER_H_MOST 600000
+
+/** A moment, at most: 2^40 - 1. */
+#define ETCS_MOMENT_MS_MOST UINT64_C(0xFFFFFFFFFF)
+
+/** The characters of a driver's identity, at most; at least one. */
+#define ETCS_IDENTITY_BYTES 16
+
+/** The first character that an identity may have: a space. All up to the last one are printed ASCII. */
+#define ETCS_IDENTITY_FIRST 0x20
+
+/** The last character that an identity may have: a tilde. */
+#define ETCS_IDENTITY_LAST 0x7E
+
+/** A running number, at most. */
+#define ETCS_RUNNING_NUMBER_MOST 99999999
+
+/** The length of a train, at most; at least 1 cm. */
+#define ETCS_LENGTH_CM_MOST 409500
+
+/** The deceleration of a train, at most; at least 1 cm/s^2. */
+#define ETCS_DECELERATION_CM_PER_S2_MOST 300
+
+/** The reaction time of a train's brakes, at most. */
+#define ETCS_REACTION_MS_MOST 10000
+
+/** The category of a train that is of none: the basic static speeds hold. 0 is a category, as 1 to 14 are. */
+#define ETCS_CATEGORY_NONE 15
 
 /** Whether the code of a library was proved. */
 enum etcs_proof {
@@ -320,13 +374,16 @@ typedef struct {
     uint64_t kind;    /**< enum etcs_request_kind */
 } etcs_unit_request_info;
 
-/** Train data (SUBSET-026, 3.18.3). */
+/** Train data (SUBSET-026, 3.18.3). Set all of them: what an initializer leaves out is 0, and that is a value of `reaction_ms`
+ * and of `category` which few trains have. */
 typedef struct {
-    uint32_t length_cm;              /**< of the whole train */
-    uint32_t maximum_m_per_h;        /**< the greatest speed that the train may run at */
-    uint32_t deceleration_cm_per_s2; /**< what its brakes are sure to reach */
-    uint32_t reaction_ms;            /**< until they are built up, with all delays of the equipment (docs/explain/integration.md) */
-    uint32_t category;               /**< of its static speeds, 0 to 15 */
+    uint32_t length_cm;              /**< of the whole train: 1 to ETCS_LENGTH_CM_MOST */
+    uint32_t maximum_m_per_h;        /**< the greatest speed that the train may run at: 1 to ETCS_SPEED_M_PER_H_MOST */
+    uint32_t deceleration_cm_per_s2; /**< what its brakes are sure to reach: 1 to ETCS_DECELERATION_CM_PER_S2_MOST */
+    uint32_t reaction_ms;            /**< until they are built up, with all delays of the equipment (docs/explain/integration.md): 0 to
+                                      * ETCS_REACTION_MS_MOST. 0, brakes that act at once, is the least safe */
+    uint32_t category;               /**< 0 to 14, or ETCS_CATEGORY_NONE: where the track sends a static speed for that category
+                                      * (NC_DIFF), it holds in place of the basic one, also where it is higher. 0 is such a category */
 } etcs_train_data;
 
 /** How far a unit is. */
@@ -632,18 +689,33 @@ uint32_t etcs_telegram_unused_(const uint8_t *bytes, uint64_t len, uint32_t mode
 /** Returns the number of the library's interface. It equals ETCS_UNIT_ABI of the header that belongs to the library. */
 uint32_t etcs_abi(void);
 
-/** Writes the version of the product, as "0.1.0", without a zero at its end, and to `len` how many bytes it has. Returns OK,
- * or NO_ROOM; then nothing is written. ETCS_VERSION_BYTES are always enough. */
+/** Writes the version of the library, as "0.1.0", with a zero at its end, and to `len` how many bytes it has before that. Returns
+ * OK, or NO_ROOM; then nothing is written. ETCS_VERSION_BYTES are always enough. */
 static inline uint32_t etcs_version(uint8_t *out, size_t room, uint32_t *len) {
-    return ((out != NULL) && (len != NULL)) ? etcs_version_(out, room, len) : (uint32_t)ETCS_UNIT_NULL_POINTER;
+    uint32_t status = (uint32_t)ETCS_UNIT_NULL_POINTER;
+    if ((out != NULL) && (len != NULL)) {
+        status = etcs_version_(out, (room > 0u) ? (room - 1u) : 0u, len);
+        if (status == (uint32_t)ETCS_UNIT_OK) {
+            out[*len] = 0;
+        }
+    }
+    return status;
 }
 
-/** Writes which build the library is, as "Gaknifur 0.1.0, commit 1a2b3c4d, sources DIGEST, proved", without a zero at its end, and to `len`
- * how many bytes it has. DIGEST is the SHA-256 of what the proof reads (tools/source_digest). Returns OK, or NO_ROOM; then nothing is
- * written. ETCS_BUILD_INFO_BYTES are always enough. The library's file contains the same text. Compare it with that of the library
- * that you validated. This call and the next one are C code outside of the proof. */
+/** Writes which build the library is, as "Gaknifur 0.1.0, commit 1a2b3c4d, sources DIGEST, proved", with a zero at its end,
+ * and to `len` how many bytes it has before that. DIGEST is the SHA-256 of what the proof reads (tools/source_digest).
+ * Returns OK, or NO_ROOM; then nothing is written. ETCS_BUILD_INFO_BYTES are always enough. The library's file contains the
+ * same text. Compare it with that of the library that you validated. This call and the next one are C code outside of the
+ * proof. */
 static inline uint32_t etcs_build_info(uint8_t *out, size_t room, uint32_t *len) {
-    return ((out != NULL) && (len != NULL)) ? etcs_build_info_(out, room, len) : (uint32_t)ETCS_UNIT_NULL_POINTER;
+    uint32_t status = (uint32_t)ETCS_UNIT_NULL_POINTER;
+    if ((out != NULL) && (len != NULL)) {
+        status = etcs_build_info_(out, (room > 0u) ? (room - 1u) : 0u, len);
+        if (status == (uint32_t)ETCS_UNIT_OK) {
+            out[*len] = 0;
+        }
+    }
+    return status;
 }
 
 /** Returns whether the library was proved (enum etcs_proof), as whoever built it knew. A train needs ETCS_PROOF_PROVED. */
@@ -684,10 +756,10 @@ static inline const char *etcs_brake_name(uint32_t number) {
 static inline const char *etcs_indication_name(uint32_t number) {
     static const char *const names[] = {"on_sight", "shunting", "level_0", "trip", "overridden", "not_revalidated", "overspeed"};
     uint32_t bit = 0;
-    while ((bit < 7u) && (number != (UINT32_C(1) << bit))) {
+    while ((bit < 8u) && (number != (UINT32_C(1) << bit))) {
         bit++;
     }
-    return etcs_name_(names, 7, bit);
+    return etcs_name_(names, (uint32_t)(sizeof names / sizeof names[0]), bit);
 }
 
 /** Returns the name of a number of enum etcs_brake_cause; "unknown" for other numbers. */
@@ -909,45 +981,49 @@ static inline uint32_t etcs_unit_open(etcs_unit *unit, const uint8_t *image, siz
 /* ---- inputs: each takes one input into memory, also while requests are carried out. Nothing is released. They answer
  * OK, NOT_OPEN, OUT_OF_RANGE, or a status of taking an input, tested in this order; but for OK nothing changed. */
 
-/** Accepts the bytes that a balise sent, 1 to ETCS_TELEGRAM_BYTES of them. Call it while the movement up to that balise is
- * the last one that was accepted. The bytes need not carry a telegram. */
+/** Accepts the user bits of a telegram that a balise sent, as bytes: 1 to ETCS_TELEGRAM_BYTES of them. A balise sends 1,023 or 341
+ * bits in the coding of SUBSET-036; the reader of balises checks that, and takes it away. What is left are 830 or 210 user bits:
+ * the first one is the highest bit of the first byte, and the last byte is filled up with any bits (104 or 27 bytes). Call it
+ * while the movement up to that balise is the last one that was accepted. The bytes need not carry a telegram. */
 ETCS_MUST_USE
 static inline uint32_t etcs_unit_telegram(etcs_unit *unit, const uint8_t *bytes, size_t len) {
     return ((unit != NULL) && (bytes != NULL)) ? etcs_unit_telegram_(unit, bytes, len) : (uint32_t)ETCS_UNIT_NULL_POINTER;
 }
 
-/** Accepts a reading of the odometer: the movement since the last one, forward or backward, and the speed now. Call it in
- * each cycle. The speed is 0 only at standstill. */
+/** Accepts a reading of the odometer: the movement since the last one, forward or backward (-ETCS_MOVEMENT_CM_MOST to
+ * ETCS_MOVEMENT_CM_MOST), and the speed now (0 to ETCS_SPEED_M_PER_H_MOST). Call it in each cycle. The speed is 0 only at
+ * standstill. */
 ETCS_MUST_USE
 static inline uint32_t etcs_unit_odometer(etcs_unit *unit, int64_t movement_cm, uint32_t speed_m_per_h) {
     return (unit != NULL) ? etcs_unit_odometer_(unit, movement_cm, speed_m_per_h) : (uint32_t)ETCS_UNIT_NULL_POINTER;
 }
 
-/** Accepts a moment of this life, in milliseconds. Call it in each cycle. Moments never go back. */
+/** Accepts a moment of this life, in milliseconds: 0 to ETCS_MOMENT_MS_MOST. Call it in each cycle. Moments never go back. */
 ETCS_MUST_USE
 static inline uint32_t etcs_unit_clock(etcs_unit *unit, uint64_t moment_ms) {
     return (unit != NULL) ? etcs_unit_clock_(unit, moment_ms) : (uint32_t)ETCS_UNIT_NULL_POINTER;
 }
 
-/** Accepts an action of the driver (enum etcs_action). Call it when the driver acts. */
+/** Accepts an action of the driver: a number of enum etcs_action. Call it when the driver acts. */
 ETCS_MUST_USE
 static inline uint32_t etcs_unit_action(etcs_unit *unit, uint32_t action) {
     return (unit != NULL) ? etcs_unit_action_(unit, action) : (uint32_t)ETCS_UNIT_NULL_POINTER;
 }
 
-/** Accepts the driver's identity, of 1 to 16 bytes. Call it when the driver has entered it. */
+/** Accepts the driver's identity: 1 to ETCS_IDENTITY_BYTES characters from ETCS_IDENTITY_FIRST to ETCS_IDENTITY_LAST. Call it
+ * when the driver has entered it. */
 ETCS_MUST_USE
 static inline uint32_t etcs_unit_identity(etcs_unit *unit, const uint8_t *bytes, size_t len) {
     return ((unit != NULL) && (bytes != NULL)) ? etcs_unit_identity_(unit, bytes, len) : (uint32_t)ETCS_UNIT_NULL_POINTER;
 }
 
-/** Accepts the running number. Call it when the driver has entered it. */
+/** Accepts the running number: 0 to ETCS_RUNNING_NUMBER_MOST. Call it when the driver has entered it. */
 ETCS_MUST_USE
 static inline uint32_t etcs_unit_running_number(etcs_unit *unit, uint32_t number) {
     return (unit != NULL) ? etcs_unit_running_number_(unit, number) : (uint32_t)ETCS_UNIT_NULL_POINTER;
 }
 
-/** Accepts train data. Call it when the driver has entered them, or the vehicle has sent them. */
+/** Accepts train data; etcs_train_data has their limits. Call it when the driver has entered them, or the vehicle has sent them. */
 ETCS_MUST_USE
 static inline uint32_t etcs_unit_train_data(etcs_unit *unit, const etcs_train_data *data) {
     return ((unit != NULL) && (data != NULL)) ? etcs_unit_train_data_(unit, data) : (uint32_t)ETCS_UNIT_NULL_POINTER;
@@ -990,8 +1066,9 @@ static inline uint32_t etcs_unit_done(etcs_unit *unit) {
 }
 
 /** Reports that the medium failed. Call it where a request can't be carried out. From then on inputs answer INPUT_FAILED, and
- * prepare and release FAILED: close the unit, and begin again. A power-up that isn't through yet is abandoned, as by
- * etcs_unit_close: nothing was written. Returns OK or NOT_OPEN. */
+ * prepare and release FAILED: close the unit, and begin again. etcs_unit_request, _provide and _done go on to answer OK up to
+ * the end of the list: that means nothing any more, since nothing is released. A power-up that isn't through yet is abandoned,
+ * as by etcs_unit_close: nothing was written. Returns OK or NOT_OPEN. */
 static inline uint32_t etcs_unit_fail(etcs_unit *unit) {
     return (unit != NULL) ? etcs_unit_fail_(unit) : (uint32_t)ETCS_UNIT_NULL_POINTER;
 }
@@ -1068,17 +1145,18 @@ static inline uint32_t etcs_unit_refusals(etcs_unit *unit, etcs_unit_refusals_in
     return ((unit != NULL) && (refusals != NULL)) ? etcs_unit_refusals_(unit, refusals) : (uint32_t)ETCS_UNIT_NULL_POINTER;
 }
 
-/** Reports what becomes of the bytes that a balise sent, and of the groups that they close, where they are the next input. Call
- * it before etcs_unit_telegram, and keep what it reports until the release of that input: until then it isn't on the medium.
- * It changes nothing, and takes some 95 kB of stack. Where two groups close it takes memory for a copy of what is known of the track, more than
- * etcs_memory.h counts. Returns OK, NOT_OPEN, OUT_OF_RANGE as etcs_unit_telegram, or NO_MEMORY where that memory is refused;
- * `preview` is written only with OK. */
+/** Reports what becomes of the bytes of a telegram, as etcs_unit_telegram takes them, and of the groups that they close,
+ * where they are the next input. Call it before etcs_unit_telegram, and keep what it reports until the release of that
+ * input: until then it isn't on the medium. It changes nothing, and takes up to ETCS_STACK_BYTES_PREVIEW of stack. Where
+ * two groups close it takes memory for a copy of what is known of the track, more than etcs_memory.h counts. Returns OK,
+ * NOT_OPEN, OUT_OF_RANGE as etcs_unit_telegram, or NO_MEMORY where that memory is refused; `preview` is written only with
+ * OK. */
 static inline uint32_t etcs_unit_preview_telegram(etcs_unit *unit, const uint8_t *bytes, size_t len, etcs_unit_preview_info *preview) {
     return ((unit != NULL) && (bytes != NULL) && (preview != NULL)) ? etcs_unit_preview_telegram_(unit, bytes, len, preview) : (uint32_t)ETCS_UNIT_NULL_POINTER;
 }
 
 /** Reports what becomes of the group that a reading of the odometer closes, where it is the next input. Call it before
- * etcs_unit_odometer; for the rest it is as etcs_unit_preview_telegram, but that it takes no memory. */
+ * etcs_unit_odometer; for the rest it is as etcs_unit_preview_telegram (ETCS_STACK_BYTES_PREVIEW), but that it takes no memory. */
 static inline uint32_t etcs_unit_preview_odometer(etcs_unit *unit, int64_t movement_cm, uint32_t speed_m_per_h, etcs_unit_preview_info *preview) {
     return ((unit != NULL) && (preview != NULL)) ? etcs_unit_preview_odometer_(unit, movement_cm, speed_m_per_h, preview) : (uint32_t)ETCS_UNIT_NULL_POINTER;
 }
@@ -1092,8 +1170,10 @@ static inline uint32_t etcs_unit_close(etcs_unit *unit) {
 }
 
 /** Writes a request, from 0 on, of those that make a medium of 1 + 6 * slots sectors an empty journal. Call it for each
- * request in turn, until it answers NO_SUCH_REQUEST; it needs no unit. Returns OK, BAD_SLOTS, NO_SUCH_REQUEST after the
- * last one, or NO_ROOM (fewer than ETCS_UNIT_SECTOR bytes). */
+ * request in turn, until it answers NO_SUCH_REQUEST; it needs no unit. IT DOESN'T KNOW WHAT THE MEDIUM HOLDS: carried out on
+ * a journal, the requests lose all its events. So read the first sector before, and carry out none where etcs_image_facts
+ * (etcs_image.h) answers OK for it. Returns OK, BAD_SLOTS, NO_SUCH_REQUEST after the last one, or NO_ROOM (fewer than
+ * ETCS_UNIT_SECTOR bytes). */
 ETCS_MUST_USE
 static inline uint32_t etcs_unit_format_request(uint32_t slots, uint32_t index, etcs_unit_request_info *request, uint8_t *bytes, size_t room) {
     return ((request != NULL) && (bytes != NULL)) ? etcs_unit_format_request_(slots, index, request, bytes, room) : (uint32_t)ETCS_UNIT_NULL_POINTER;
@@ -1139,7 +1219,8 @@ static inline const char *etcs_dropped_name(uint32_t variable) {
 
 /** Writes a packet of a telegram, from 0 on, of those that a unit doesn't use, and why: in this mode (enum etcs_mode), where
  * the telegram's group is accepted, and passed in this direction (enum etcs_direction). Call it to act on what a track
- * sends and the unit doesn't obey, as a packet 132, 135 or 137; all other packets are used. Returns OK, END after the last
+ * sends and the unit doesn't obey, as a packet 132, 135 or 137; all other packets are used. It takes up to
+ * ETCS_STACK_BYTES_UNUSED of stack. Returns OK, END after the last
  * one, or OUT_OF_RANGE where no mode or direction has the number; nothing is written but with OK. */
 ETCS_MUST_USE
 static inline uint32_t etcs_telegram_unused(const uint8_t *bytes, size_t len, uint32_t mode, uint32_t direction, uint32_t index, etcs_packet_unused *packet) {

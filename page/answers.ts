@@ -1,20 +1,26 @@
 // What is said of an image, of its slots, lives and interventions.
 import {Records} from "./calls";
 import {Child, make} from "./dom";
+import {AskedImage} from "./image";
 import {Facts, JournalRecord, Replay, SECTOR, Slot, Why} from "./layouts";
 import {Intervention} from "./lives";
 import {causeTextsOf, tripReason} from "./brief";
 import {Head} from "./messages";
-import {brakeText, count, indicationTexts, kmh, levelText} from "./shown";
-import {metres, modeName, modeWord, seconds} from "./shown";
+import {brakeText, count, frontText, indicationTexts, levelText} from "./shown";
+import {modeName, modeWord, permittedText, placeText, seconds, speedText} from "./shown";
 import {KEPT_FIELDS, RECORD_FIELDS, SAY, SLOTS, VERDICTS} from "./texts";
 
+/** How many bytes an image has, and which of them aren't read. */
+function bytesText({ bytes: { length }, bytesRead }: AskedImage): string {
+    const rest = length % SECTOR;
+    if (bytesRead < length) return `${count(length)}, of which the first ${count(bytesRead)} are read`;
+    return rest ? `${count(length)}, of which ${rest} stand after the last whole sector` : count(length);
+}
+
 /** What an image is. */
-export function imageTexts(name: string, digest: string, bytes: number, facts: Facts, records: Records|null,
-    lives: number, unreadable: number[], isAssumed: boolean): [string, string][] {
-    const rest = bytes % SECTOR, rows: [string, string][] = [
-        ["file", name], ["SHA-256", digest],
-        ["bytes", `${count(bytes)}${rest ? `, of which ${rest} stand after the last whole sector` : ""}`],
+export function imageTexts(image: AskedImage, facts: Facts): [string, string][] {
+    const { name, digest, records, lives, unreadable, isBySlots: isAssumed } = image, rows: [string, string][] = [
+        ["file", name], ["SHA-256", digest], ["bytes", bytesText(image)],
         ["sectors", count(facts.sectors)],
         ["slots", `${count(facts.slots)}, ${count(facts.whole)} whole${isAssumed ? `; ${SAY.assumed}` : ""}`],
         ["newest block", facts.newest ? count(facts.newest) : "none"]
@@ -25,7 +31,7 @@ export function imageTexts(name: string, digest: string, bytes: number, facts: F
             `${count(records.event(0))} to ${count(records.event(records.count - 1))}, ${
                 count(records.count)} can be read`
         ]);
-        rows.push(["lives", count(lives)]);
+        rows.push(["lives", count(lives.length)]);
     }
     if (unreadable.length)
         rows.push(["can't be read", `block${unreadable.length > 1 ? "s" : ""} ${unreadable.slice(0, 20).join(", ")}`]);
@@ -48,8 +54,7 @@ export function slotText(slot: Slot, number: number, head: Head|undefined): stri
 function answerText(record: JournalRecord): string {
     return `${modeWord(record.mode)}, level ${levelText(record.level)}, ${brakeText(record.brake)}, indications ${
                record.indications}, ` +
-        `${metres(record.front)} ± ${metres(record.uncertainty)}, limit ${kmh(record.limit)} km/h, ${
-            seconds(record.moment)}`;
+        `place ${frontText(record)}, limit ${permittedText(record.limit)}, ${seconds(record.moment)}`;
 }
 
 /** What events of a life that was run again came to, or a head. */
@@ -63,10 +68,21 @@ function verdictText(life: Replay): string {
     return life.verdict === 3 ? `${says}: block ${count(life.block)} in ${KEPT_FIELDS[life.field]}` : says;
 }
 
+/** Whether the replay of some life differs. */
+function differs(lives: Replay[]): boolean { return lives.some(({ verdict }) => verdict === 2 || verdict === 3); }
+
+/** What the slots say, and its kind: good only where the replay doesn't differ. */
+export function slotsVerdict({ heads, isWhole, replays }: AskedImage): [string, string] {
+    if (isWhole === null) return ["", ""];
+    if (isWhole) return differs(replays ?? []) ? [SAY.wholeButDiffers, "bad"] : [SAY.whole, "good"];
+    const lost = lostTexts([...heads.values()]).slice(0, 20);
+    return [SAY.notWhole + (lost.length ? ` Lost: ${lost.join("; ")}.` : ""), "bad"];
+}
+
 /** What the replay of all lives came to. */
 export function replayText(lives: Replay[], unreadable: number[]): string {
-    const differs = lives.some(life => life.verdict === 2 || life.verdict === 3);
-    const agrees = lives.some(life => life.verdict === 1), says = [differs ? SAY.differs : agrees ? SAY.agrees : ""];
+    const agrees = lives.some(life => life.verdict === 1);
+    const says = [differs(lives) ? SAY.differs : agrees ? SAY.agrees : ""];
     if (unreadable.length) says.push(`Can't be read: block ${unreadable.join(", ")}.`);
     return [...says, agrees ? SAY.authentic : ""].filter(text => text).join(" ");
 }
@@ -80,10 +96,6 @@ export function lifeCells(life: Replay, word: string): Child[] {
     ];
 }
 
-function speedOf(speed: number, limit: number): string {
-    return `${Number.isNaN(speed) ? SAY.unknown : kmh(speed)} of ${kmh(limit)} km/h`;
-}
-
 /** The cells of an intervention; its causes come later. */
 export function interventionTexts(
     records: Records, one: Intervention, speed: number, trips: number[], causes: Map<number, Why|string>): Child[] {
@@ -94,8 +106,8 @@ export function interventionTexts(
         says.push(`tripped at event ${count(records.event(index))}: ${tripReason(causes.get(index))}`);
     const isWorst = one.steps.some(({ brake }) => brake === 2);
     return [
-        `${count(records.event(one.first))} to ${count(records.event(one.last))}`, metres(records.front(one.first)),
-        seconds(records.moment(one.first)), speedOf(speed, records.limit(one.first)),
+        `${count(records.event(one.first))} to ${count(records.event(one.last))}`, placeText(records.front(one.first)),
+        seconds(records.moment(one.first)), speedText(speed), permittedText(records.limit(one.first)),
         make("strong", { class: isWorst ? "bad" : "" }, one.steps.map(({ brake }) => brakeText(brake)).join(", then ")),
         make("ul", {}, ...says.map(text => make("li", {}, text)))
     ];
@@ -103,18 +115,14 @@ export function interventionTexts(
 
 /** What holds after the event of a record. */
 export function outcomeText(record: JournalRecord): string {
-    const rows = [`After it: ${modeName(record.mode)}, level ${levelText(record.level)}, ${brakeText(record.brake)}`];
-    if (record.hasPlace) {
-        const place = `front at ${metres(record.front)} ± ${metres(record.uncertainty)}`;
-        rows.push(`limit ${kmh(record.limit)} km/h, ${place}`);
-    }
-    rows.push(
-        `moment ${seconds(record.moment)}`, `shown: ${indicationTexts(record.indications).join(", ") || "nothing"}`);
-    return rows.join("; ") + ".";
+    const answer = `${modeName(record.mode)}, level ${levelText(record.level)}, ${brakeText(record.brake)}`;
+    const shown = indicationTexts(record.indications).join(", ") || "nothing";
+    return `After it: ${answer}; limit ${permittedText(record.limit)}, front ${frontText(record)}; ` +
+        `moment ${seconds(record.moment)}; shown: ${shown}.`;
 }
 
 /** The blocks that are missing between two that are there, with their events. */
-export function lostTexts(heads: Head[]): string[] {
+function lostTexts(heads: Head[]): string[] {
     const sorted = [...heads].sort((one, other) => one.number - other.number);
     return sorted.flatMap((head, n) => {
         const before = sorted[n - 1];

@@ -1,9 +1,9 @@
 // Asking images: what is dropped goes to the worker, and what that reports is shown: all images on one axis, and all
 // about one of them.
-import {imageTexts, lostTexts, replayText, slotText} from "./answers";
+import {imageTexts, replayText, slotsVerdict, slotText} from "./answers";
 import {briefRows} from "./brief";
 import {Calls, END} from "./calls";
-import {Chosen, isNextTo, marksIn, misfit, MOST_BYTES, sorted, whenChosen} from "./choosing";
+import {Chosen, isNextTo, marksIn, misfit, MOST_BYTES, nameOf, sorted, whenChosen} from "./choosing";
 import {Day, utcText} from "./day";
 import {at, make, say, show} from "./dom";
 import {EventView} from "./eventview";
@@ -11,16 +11,18 @@ import {Findings, offerToSave} from "./evidence";
 import {identityIn, identityText, strangers} from "./identity";
 import {AskedImage, Given, namedBy, namedByMarks} from "./image";
 import {ImageList} from "./imagelist";
+import {short} from "./escaping";
 import {Lists} from "./lists";
 import {lastOf} from "./lives";
 import {Order, Report} from "./messages";
 import {Notes} from "./notes";
+import {mark, wholeOf} from "./numbers";
 import {drawRing, legendOf} from "./ring";
 import {count, keptTexts} from "./shown";
 import {BySlots, imageSize} from "./slots";
 import {Strangers, strangersText} from "./strangers";
 import {choose} from "./tabs";
-import {DAY, SAY, STATUSES} from "./texts";
+import {DAY, ENTRY, SAY, STATUSES} from "./texts";
 import {Viewer} from "./viewer";
 import {VIEW} from "./wording";
 
@@ -45,14 +47,13 @@ export class Ask {
         this.choose(n);
     }, image => this.notedOf(image));
     private readonly list = new ImageList(image => this.showImage(image), image => this.remove(image));
-    private readonly bySlots = new BySlots((given, slots) => this.again(given, slots));
+    private readonly bySlots = new BySlots((given, slots, isEntered) => this.again(given, slots, isEntered));
 
     constructor(private readonly worker: { postMessage(order: Order, transfer?: Transferable[]): void }, calls: Calls) {
         this.event = new EventView(worker, calls, this.day);
-        whenChosen(files => void this.take(files));
+        whenChosen(files => void this.take(files).catch((error: unknown) => this.refuse(String(error))));
         at("scrub").addEventListener("input", () => this.choose(Number(at<HTMLInputElement>("scrub").value)));
-        at("event-number")
-            .addEventListener("change", () => this.chooseEvent(Number(at<HTMLInputElement>("event-number").value)));
+        at("event-number").addEventListener("change", () => this.enterEvent(at<HTMLInputElement>("event-number")));
         const move: [string, (image: AskedImage) => number | null][] = [
             ["first", image => this.viewer.next(image, -1, 1)],
             ["before", image => this.viewer.next(image, image.index, -1)],
@@ -91,28 +92,29 @@ export class Ask {
     /** Takes images, marks of the time of day, and identities. */
     async take(files: File[]): Promise<void> {
         choose("ask");
-        const { chosen, alone } = await sorted(files);
+        const { chosen, alone, unreadable } = await sorted(files);
         say("ask-error", "");
+        for (const file of unreadable) this.refuse(SAY.noImage(nameOf(file), SAY.unreadableFile));
         for (const one of chosen) await this.takeImage(one);
         for (const [kind, file] of alone) {
             const named = this.images.find(({ name }) => isNextTo(kind, file, name));
             const image = named ?? (alone.length === 1 && !chosen.length ? this.image : undefined);
-            if (!image) this.refuse(this.images.length ? SAY.whose(file.name) : SAY.noImageYet);
+            if (!image) this.refuse(this.images.length ? SAY.whose(nameOf(file)) : SAY.noImageYet);
             else if (kind === "marks") await this.takeMarks(image, file);
             else await this.takeIdentity(image, file);
         }
     }
 
     private async takeImage({ image: file, marks, identity }: Chosen): Promise<void> {
-        const bytes = this.images.reduce((sum, { given }) => sum + given.file.size, file.size), { name } = file;
+        const bytes = this.images.reduce((sum, { given }) => sum + given.file.size, file.size), name = nameOf(file);
         if (misfit(file)) this.refuse(misfit(file));
         else if (this.images.length >= MOST_IMAGES) this.refuse(SAY.tooMany(name, MOST_IMAGES));
         else if (bytes > MOST_BYTES) this.refuse(SAY.tooMuch(name));
         else {
             const whose = identity && await identityIn(identity);
-            if (typeof whose === "string" && identity) this.refuse(SAY.noIdentity(identity.name, whose));
+            if (typeof whose === "string" && identity) this.refuse(SAY.noIdentity(nameOf(identity), whose));
             const given = {
-                ...{ name, file, slots: null },
+                ...{ name, file, slots: null, first: null },
                 marks: marks && await marksIn(marks),
                 identity: typeof whose === "string" ? null : whose
             };
@@ -135,7 +137,7 @@ export class Ask {
 
     private async takeIdentity(image: AskedImage, file: File): Promise<void> {
         const whose = await identityIn(file);
-        if (typeof whose === "string") return this.refuse(SAY.noIdentity(file.name, whose));
+        if (typeof whose === "string") return this.refuse(SAY.noIdentity(nameOf(file), whose));
         image.identity = whose;
         const found = strangers(image.named, this.images.filter(one => one !== image).flatMap(({ named }) => named));
         if (found) this.refuse(strangersText(found));
@@ -146,14 +148,14 @@ export class Ask {
     ask(name: string, file: Blob): void {
         for (const image of [...this.images]) this.remove(image);
         say("ask-error", "");
-        this.add({ name, file, marks: null, identity: null, slots: null });
+        this.add({ name, file, marks: null, identity: null, slots: null, first: null });
     }
 
-    /** Reads an image again, with a number of slots that was entered. */
-    private again(given: Given, slots: number): void {
+    /** Reads only the first bytes of an image, which are those of a number of slots: of its own, or of one entered. */
+    private again(given: Given, slots: number, isEntered: boolean): void {
         for (const image of this.images.filter(({ given: { file } }) => file === given.file)) this.remove(image);
         say("ask-error", "");
-        this.add({...given, slots });
+        this.add({...given, slots: isEntered ? slots : null, first: imageSize(slots) });
     }
 
     private add(given: Given): void {
@@ -165,7 +167,8 @@ export class Ask {
         if (this.image) this.list.show(this.images, this.image);
         else this.showImage(image);
         say("ask-progress", SAY.reading);
-        this.worker.postMessage({ kind: "image", id: image.id, file: given.file, slots: given.slots });
+        const { file, slots, first } = given;
+        this.worker.postMessage({ kind: "image", id: image.id, file, slots, first });
     }
 
     /** Removes an image; what isn't read of it yet stays unread. */
@@ -190,7 +193,7 @@ export class Ask {
         else if (report.kind === "failed") this.giveUp(image, report.says);
         else if (report.kind === "records") this.takeRecords(image);
         else if (report.kind === "progress")
-            say("ask-progress", SAY.progress(report.done, report.all || report.done, report.what));
+            say("ask-progress", SAY.progress(report.done, report.all, report.what));
         else if (report.kind === "done") say("ask-progress", this.isDone ? "" : SAY.reading);
         else if (!isShown) return;
         else if (report.kind === "facts") this.showFacts();
@@ -222,18 +225,10 @@ export class Ask {
         image.reckon(this.day.drift);
         this.viewer.take(this.images);
         image.index = lastOf(image.interventions)?.first ?? 0;
-        if (image.status !== END) this.refuse(this.whyUnread(image));
+        if (image.status !== END) this.refuse(this.bySlots.whyUnread(image, whyText(image.status)));
         if (location.hash === this.ownLink) this.link("");
         this.showImage(image);
         this.followHash();
-    }
-
-    /** Why there is no journal, and what can be done. */
-    private whyUnread({ facts, bytes, name, isBySlots, given, status }: AskedImage): string {
-        const slots = facts?.slots ?? 0;
-        if (!isBySlots && BySlots.isCut(bytes.length, slots))
-            return SAY.cutOff(name, bytes.length, slots, imageSize(slots));
-        return SAY.noImage(name, whyText(status)) + this.bySlots.offer(given);
     }
 
     // ---- what is shown of an image
@@ -265,8 +260,7 @@ export class Ask {
         const { image } = this, facts = image?.facts;
         at("answers").hidden = !facts;
         if (!facts) return;
-        const { name, digest, bytes, records, lives, unreadable, isBySlots, identity } = image;
-        const rows = imageTexts(name, digest, bytes.length, facts, records, lives.length, unreadable, isBySlots);
+        const rows = imageTexts(image, facts), { identity } = image;
         if (identity) rows.push(["whose", `${identityText(identity)} (${DAY.outside})`]);
         show("facts", ...rows.flatMap(([what, value]) => [make("dt", {}, what), make("dd", {}, value)]));
     }
@@ -279,17 +273,21 @@ export class Ask {
         const { image } = this;
         if (!image) return;
         show("ring-legend", ...legendOf(image.slots));
-        const lost = lostTexts([...image.heads.values()]), { isWhole, newest } = image;
+        const { newest } = image;
         this.showBrief();
-        say("verdict",
-            isWhole ? SAY.whole : SAY.notWhole + (lost.length ? ` Lost: ${lost.slice(0, 20).join("; ")}.` : ""));
-        at("verdict").className = `verdict ${isWhole ? "good" : "bad"}`;
+        this.showVerdict(image);
         if (newest)
             show("kept",
                 ...keptTexts(newest.kept).flatMap(([name, value]) => [make("dt", {}, name), make("dd", {}, value)]));
         const bad = image.slots.findIndex(slot => !slot.isSound);
         this.chooseSlot(image, bad >= 0 ? bad : null);
         this.event.show(image);
+    }
+
+    private showVerdict(image: AskedImage): void {
+        const [says, kind] = slotsVerdict(image);
+        say("verdict", says);
+        at("verdict").className = `verdict ${kind}`;
     }
 
     private chooseSlot(image: AskedImage, slot: number|null): void {
@@ -307,6 +305,7 @@ export class Ask {
         if (replays) {
             this.lists.showLives(records, replays);
             say("replay-said", replayText(replays, unreadable));
+            this.showVerdict(image);
         }
         this.lists.showInterventions(records, interventions, speeds, trips, counted);
         this.showBrief();
@@ -356,10 +355,17 @@ export class Ask {
         history.replaceState(null, "", hash || location.pathname);
     }
 
+    private enterEvent(field: HTMLInputElement): void {
+        const event = wholeOf(field.value);
+        mark(field, event !== null);
+        if (event === null) say("event-error", ENTRY.event(short(field.value)));
+        else this.chooseEvent(event);
+    }
+
     chooseEvent(event: number): void {
         const index = this.records?.find(event) ?? null;
         if (index !== null) this.choose(index);
-        else say("event-said", `Event ${count(event)} is in no block of the journal that can be read.`);
+        else say("event-error", `Event ${count(event)} is in no block of the journal that can be read.`);
     }
 
     choose(index: number): void {
@@ -369,6 +375,8 @@ export class Ask {
         const event = records.event(image.index);
         at<HTMLInputElement>("scrub").value = String(image.index);
         at<HTMLInputElement>("event-number").value = String(event);
+        mark(at("event-number"), true);
+        say("event-error", "");
         // (a browser takes few links in a short time, so the link waits until the scrubber stands)
         clearTimeout(this.linking);
         this.linking = setTimeout(() => this.link(`#event=${event}`), LINK_MS) as unknown as number;

@@ -10,11 +10,11 @@ import {
     brakeText,
     causeText,
     count,
-    kmh,
     levelText,
     limitText,
-    metres,
     modeName,
+    permittedText,
+    placeText,
     seconds,
     speedText,
     tripCauseText
@@ -109,14 +109,11 @@ function implausible({ implausible: all }: Known): Child[] {
     ];
 }
 
-function speedAt(speed: number): string {
-    return Number.isNaN(speed) ? BRIEF.unknownSpeed : `at ${speedText(speed)}`;
-}
-
 /** Where and how fast the train was at a record. */
 function at({ records, speeds, utc }: Known, index: number): string {
-    return `at ${metres(records.front(index))}, ${speedAt(speeds[index] ?? NaN)} (limit ${
-        kmh(records.limit(index))} km/h), moment ${seconds(records.moment(index))}${utc(index)}`;
+    const place = placeText(records.front(index)), speed = speedText(speeds[index] ?? NaN);
+    return `place ${place}, speed ${speed}, limit ${permittedText(records.limit(index))}, moment ${
+        seconds(records.moment(index))}${utc(index)}`;
 }
 
 /** The last intervention, with its causes, those of its trips, and what decided the limit. */
@@ -156,7 +153,7 @@ function lastLife({ records, lives, speeds, utc }: Known): Child[] {
     const end = records.get(life.end - 1), events = `${count(records.event(life.from))} to ${count(end.event)}`;
     return [
         `life ${life.number}, events ${events}; at its end ${modeName(end.mode)}, level ${levelText(end.level)}, `,
-        `${brakeText(end.brake)}, speed ${speedText(speeds[life.end - 1] ?? NaN)}, at ${metres(end.front)}, `,
+        `${brakeText(end.brake)}, place ${placeText(end.front)}, speed ${speedText(speeds[life.end - 1] ?? NaN)}, `,
         `moment ${seconds(end.moment)}${utc(life.end - 1)}`
     ];
 }

@@ -320,8 +320,13 @@ export class Records {
     event(index: number): number { return this.reader.u64(BYTES.record * index); }
     block(index: number): number { return this.reader.u64(BYTES.record * index + 8); }
     moment(index: number): number { return this.reader.u64(BYTES.record * index + 16); }
-    front(index: number): number { return this.reader.i64(BYTES.record * index + 24); }
-    limit(index: number): number { return this.reader.u32(BYTES.record * index + 40); }
+    /** A record of format 1 has no place and no limit. */
+    front(index: number): number|null {
+        return this.hasPlace(index) ? this.reader.i64(BYTES.record * index + 24) : null;
+    }
+    limit(index: number): number|null {
+        return this.hasPlace(index) ? this.reader.u32(BYTES.record * index + 40) : null;
+    }
     life(index: number): number { return this.reader.u32(BYTES.record * index + 44); }
     kind(index: number): number { return this.reader.u8(BYTES.record * index + 49); }
     brake(index: number): number { return this.reader.u8(BYTES.record * index + 52); }

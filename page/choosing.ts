@@ -1,5 +1,6 @@
 // Files that are dropped on the page or chosen: an image, and marks of the time of day for it.
 import {at} from "./dom";
+import {spelled} from "./escaping";
 import {MarksFile} from "./image";
 import {SECTOR} from "./layouts";
 import {SAY} from "./texts";
@@ -7,6 +8,9 @@ import {looksLikeMarks, readMarks} from "./times";
 
 export const MOST_BYTES = 512 * 1024 * 1024;
 const MOST_OF_MARKS = 16 * 1024 * 1024;
+
+/** The name of a file as it is shown: characters that can't be seen, or that turn the text, are spelled. */
+export function nameOf(file: File): string { return spelled(file.name); }
 
 /** Hands on the files that are dropped or chosen together. */
 export function whenChosen(take: (files: File[]) => void): void {
@@ -27,9 +31,12 @@ export function whenChosen(take: (files: File[]) => void): void {
     }
 }
 
-/** Whether a file is one of marks: by its name, or by how it begins. */
-async function isOfMarks(file: File): Promise<boolean> {
-    return file.name.endsWith(".times") || looksLikeMarks(new Uint8Array(await file.slice(0, 256).arrayBuffer()));
+/** Whether a file is one of marks, by its name or by how it begins; null where it can't be read. */
+async function isOfMarks(file: File): Promise<boolean|null> {
+    try {
+        const begin = new Uint8Array(await file.slice(0, 256).arrayBuffer());
+        return file.name.endsWith(".times") || looksLikeMarks(begin);
+    } catch { return null; }
 }
 
 /** An image with the files next to it. */
@@ -41,10 +48,20 @@ export interface Chosen {
 type Kind = "marks"|"identity";
 const ENDS: Record<Kind, string> = {marks: ".times", identity: ".identity"};
 
-/** The images among some files, and marks and identities without an image among them. One is of the image whose name it
- * has, with its ending; or of the only image where there is one of each. */
-export async function sorted(files: File[]): Promise<{chosen: Chosen[]; alone: [Kind, File][]}> {
-    const areMarks = await Promise.all(files.map(isOfMarks));
+/** What some files are. */
+interface Sorted {
+    chosen: Chosen[];
+    /** Marks and identities without an image among the files. */
+    alone: [Kind, File][];
+    /** Folders, and files that can't be read. */
+    unreadable: File[]
+}
+
+/** Marks and an identity are of the image whose name they have, with their ending; or of the only image where there is
+ * one of each. */
+export async function sorted(all: File[]): Promise<Sorted> {
+    const answers = await Promise.all(all.map(isOfMarks)), unreadable = all.filter((_, n) => answers[n] === null);
+    const files = all.filter((_, n) => answers[n] !== null), areMarks = answers.filter(one => one !== null);
     const kindOf = (file: File, n: number): Kind|null =>
         areMarks[n] ? "marks" : file.name.endsWith(ENDS.identity) ? "identity" : null;
     const chosen = files.filter((file, n) => !kindOf(file, n)).map(image => ({ image, marks: null, identity: null }));
@@ -58,20 +75,21 @@ export async function sorted(files: File[]): Promise<{chosen: Chosen[]; alone: [
             else alone.push([kind, file]);
         }
     }
-    return { chosen, alone };
+    return { chosen, alone, unreadable };
 }
 
 /** Whether marks or an identity are of an image of a name, by theirs. */
-export function isNextTo(kind: Kind, file: File, name: string): boolean { return file.name === name + ENDS[kind]; }
+export function isNextTo(kind: Kind, file: File, name: string): boolean { return nameOf(file) === name + ENDS[kind]; }
 
 /** Why a file can't be an image, by its size; nothing where it can be one. */
 export function misfit(file: File): string {
-    return file.size > MOST_BYTES ? SAY.tooBig(file.name) : file.size < SECTOR ? SAY.tooSmall(file.name) : "";
+    const name = nameOf(file);
+    return file.size > MOST_BYTES ? SAY.tooBig(name) : file.size < SECTOR ? SAY.tooSmall(name) : "";
 }
 
 /** The marks of a file. */
 export async function marksIn(file: File): Promise<MarksFile> {
-    const { name } = file;
+    const name = nameOf(file);
     if (file.size > MOST_OF_MARKS) return { name, read: SAY.tooManyMarks(name) };
     const read = readMarks(new Uint8Array(await file.arrayBuffer()));
     return { name, read: typeof read === "string" ? `${name}: ${read}.` : read };

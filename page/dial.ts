@@ -7,7 +7,8 @@ import {Why} from "./layouts";
 export interface Shown {
     /** NaN where it isn't known. */
     speed: number;
-    limit: number;
+    /** Null where the record has none. */
+    limit: number|null;
     target: number|null;
     release: number|null;
     brake: number;
@@ -21,7 +22,7 @@ const SWEEP = 144, OUTER = 137, WIDTH = 9, HOOK = 20;
 export function scaleOf(most: number): number { return most > 250_000 ? 400 : most > 180_000 ? 250 : 180; }
 
 /** What the dial shows of an output, and of why it is so. */
-export function shownOf(speed: number, limit: number, brake: number, indications: number, why: Why|null): Shown {
+export function shownOf(speed: number, limit: number|null, brake: number, indications: number, why: Why|null): Shown {
     const cause = why ? why.limitCause : 0, isRelease = cause >= RELEASE && cause <= NATIONAL_RELEASE;
     return {
         speed,
@@ -94,9 +95,9 @@ export class Dial {
         });
     }
 
-    show(shown: Shown): void {
-        const speed = shown.speed / 1000, limit = shown.limit / 1000, middle = OUTER - WIDTH / 2,
-              parts: (Element|null)[] = [];
+    /** The arcs of a limit, with the target and the speed above it. */
+    private arcsOf(shown: Shown, limit: number): (Element|null)[] {
+        const speed = shown.speed / 1000, middle = OUTER - WIDTH / 2, parts: (Element|null)[] = [];
         const from = shown.target === null ? limit : Math.min(shown.target / 1000, limit);
         parts.push(this.arc(0, from, middle, WIDTH, shown.release === null ? DARK_GREY : YELLOW));
         parts.push(this.arc(from, limit, middle, WIDTH, YELLOW));
@@ -106,6 +107,11 @@ export class Dial {
         const hook = shown.target === null ? GREY : YELLOW, degree = this.most / SWEEP / 2;
         parts.push(
             this.arc(Math.max(0, limit - 3 * degree), Math.max(limit, 3 * degree), OUTER - HOOK / 2, HOOK, hook));
+        return parts;
+    }
+
+    show(shown: Shown): void {
+        const speed = shown.speed / 1000, parts = shown.limit === null ? [] : this.arcsOf(shown, shown.limit / 1000);
         this.arcs.replaceChildren(...parts.filter((part): part is Element => part !== null));
         const colour = needle(shown);
         this.hand.setAttribute("visibility", Number.isNaN(speed) ? "hidden" : "visible");

@@ -126,11 +126,14 @@ class Painter {
         const { layers } = this.scene, isPlace = layers[0]?.axis.kind === "place";
         const bands = layers.map(({ columns: { other, ways } }) => [other, ways.other]);
         const ends = bands.flat().flatMap(band => [bounds(band.low)[0], bounds(band.high)[1]]);
-        const [low, high] = bounds(ends.filter(Number.isFinite));
+        const known = ends.filter(Number.isFinite), [low, high] = bounds(known);
         const [unit, per] = isPlace ? ["s", 1000] : high < 1e7 ? ["m", 100] : ["km", 100_000];
         const Y = (v: number): number => OTHER[1] - (OTHER[1] - OTHER[0]) * (v - low) / (high - low || 1);
-        this.text(LEFT - 6, OTHER[0] + 8, "end", `${Math.round(high / per).toLocaleString("en")} ${unit}`);
-        this.text(LEFT - 6, OTHER[1], "end", `${Math.round(low / per).toLocaleString("en")} ${unit}`);
+        const text = (value: number): string => `${Math.round(value / per).toLocaleString("en")} ${unit}`;
+        if (known.length) {
+            this.text(LEFT - 6, OTHER[0] + 8, "end", text(high));
+            this.text(LEFT - 6, OTHER[1], "end", text(low));
+        } else if (!isPlace) this.text(LEFT + 6, (OTHER[0] + OTHER[1]) / 2 + 6, "start", VIEW.noPlaces);
         this.text(
             LEFT - 6, (OTHER[0] + OTHER[1]) / 2 + 6, "end", isPlace ? VIEW.lanes.moment : VIEW.lanes.place);
         layers.forEach((layer, n) => this.line(layer, isPlace ? layer.signals.moment : layer.signals.place,

@@ -9,7 +9,8 @@ import {judge, Kind, textOf} from "./judging";
 import {Group} from "./life";
 import {drawLine, Handle} from "./line";
 import {metres} from "./shown";
-import {EDIT, SAY} from "./texts";
+import {mark, scaledOf} from "./numbers";
+import {EDIT, ENTRY, SAY} from "./texts";
 import {addTrack} from "./tracks";
 
 export interface Edited {
@@ -19,6 +20,15 @@ export interface Edited {
     balises: string[]
 }
 const MOST_AT = 100_000_000, MOST_SPACING = 1_200, MOST_BALISES = 8, METRE = 100;
+
+/** The place or distance in a field, in cm; null where it is outside its limits, which is said. */
+function enteredMetres(field: HTMLInputElement, most: number): number|null {
+    const number = scaledOf(field.value, METRE), isOne = number !== null && number >= 1 && number <= most;
+    mark(field, isOne);
+    const [from, to] = [1 / METRE, most / METRE].map(metres => metres.toLocaleString("en"));
+    say("editor-error", isOne ? "" : ENTRY.place(from ?? "", to ?? ""));
+    return isOne ? number : null;
+}
 
 export class Editor {
     private groups: Edited[] = [];
@@ -33,11 +43,13 @@ export class Editor {
         at("add-balise").addEventListener("click", () => this.addBalise());
         at("drive-edited").addEventListener("click", () => this.run());
         const place = at<HTMLInputElement>("group-at"), spacing = at<HTMLInputElement>("group-spacing");
-        place.addEventListener("change", () => this.move(this.chosen, Math.round(Number(place.value) * METRE)));
+        place.addEventListener("change", () => {
+            const number = enteredMetres(place, MOST_AT);
+            if (number !== null) this.move(this.chosen, number);
+        });
         spacing.addEventListener("change", () => {
-            const one = this.groups[this.chosen], number = Math.round(Number(spacing.value) * METRE);
-            if (one && number >= 1 && number <= MOST_SPACING) one.spacing = number;
-            this.showGroup();
+            const one = this.groups[this.chosen], number = enteredMetres(spacing, MOST_SPACING);
+            if (one && number !== null) one.spacing = number;
         });
     }
 
@@ -131,7 +143,10 @@ export class Editor {
         if (!group) return;
         this.showPlace();
         at<HTMLInputElement>("group-spacing").value = String(group.spacing / METRE);
-        for (const id of ["group-at", "group-spacing"]) at<HTMLInputElement>(id).disabled = !this.chosen;
+        for (const id of ["group-at", "group-spacing"]) {
+            mark(at(id), true);
+            at<HTMLInputElement>(id).disabled = !this.chosen;
+        }
         at<HTMLButtonElement>("remove-group").disabled = !this.chosen;
         at<HTMLButtonElement>("add-balise").disabled = group.balises.length >= MOST_BALISES;
         show("balises", ...group.balises.map((text, n) => this.balise(group, text, n)));

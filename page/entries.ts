@@ -1,6 +1,7 @@
 // What the driver enters at the desk. An entry outside its limits marks its field and names the limit, and isn't handed
 // on.
 import {at, say} from "./dom";
+import {mark, scaledOf} from "./numbers";
 import {VALUES} from "./scenario";
 import {ENTRY} from "./texts";
 
@@ -23,19 +24,17 @@ export const TRAIN_DATA = [
 ];
 const IDENTITY = /^[\x20-\x7e]{1,16}$/;
 
-function mark(id: string, isOne: boolean): void { at(id).setAttribute("aria-invalid", String(!isOne)); }
-
 /** The numbers of some fields, as the unit is handed them; null where one of them isn't within its limits. */
 export function numbersOf(entries: Entry[]): number[]|null {
     const numbers: number[] = [];
     let says = "";
     for (const { id, what, scale, limits: [least, most] } of entries) {
-        const text = at<HTMLInputElement>(id).value.trim(), number = Math.round(Number(text) * scale);
-        const isOne = text !== "" && number >= least && number <= most;
-        mark(id, isOne);
+        const field = at<HTMLInputElement>(id), number = scaledOf(field.value, scale);
+        const isOne = number !== null && number >= least && number <= most;
+        mark(field, isOne);
         if (!isOne && !says)
-            says = ENTRY.limits(what, (least / scale).toLocaleString("en"), (most / scale).toLocaleString("en"));
-        numbers.push(number);
+            says = ENTRY.limits(what, (least / scale).toLocaleString("en"), (most / scale).toLocaleString("en"), scale);
+        numbers.push(number ?? 0);
     }
     say("entry-error", says);
     return says ? null : numbers;
@@ -44,7 +43,7 @@ export function numbersOf(entries: Entry[]): number[]|null {
 /** The identity that is entered; null where it has none or too many characters, or others than ASCII. */
 export function identityOf(): string|null {
     const text = at<HTMLInputElement>("identity").value, isOne = IDENTITY.test(text);
-    mark("identity", isOne);
+    mark(at("identity"), isOne);
     say("entry-error", isOne ? "" : ENTRY.identity);
     return isOne ? text : null;
 }

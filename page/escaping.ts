@@ -1,5 +1,6 @@
 // Texts of files, escaped as python/gaknifur/escaping.py does it, and split and stripped as Python does it.
 const HIDDEN = /[\p{Cc}\p{Cf}\p{Cs}\p{Co}\p{Cn}\p{Zl}\p{Zp}]/gu;
+const MOST_QUOTED = 40;
 const SPACE = "[\\t-\\r\\x1c-\\x20\\x85\\xa0\\u1680\\u2000-\\u200a\\u2028\\u2029\\u202f\\u205f\\u3000]+";
 const STRIP = new RegExp(`^${SPACE}|${SPACE}$`, "g");
 const LINE_END = /\r\n|[\n-\r\x1c-\x1e\x85\u2028\u2029]/;
@@ -12,6 +13,11 @@ export function spelled(text: string): string {
             : number < 0x10000 ? `\\u${digits.padStart(4, "0")}`
                                : `\\U${digits.padStart(8, "0")}`;
     });
+}
+
+/** A text as it is quoted in a sentence: spelled, and no longer than a line. */
+export function short(text: string): string {
+    return spelled(text.length > MOST_QUOTED ? `${text.slice(0, MOST_QUOTED)}…` : text);
 }
 
 /** A text without the white space around it. */

@@ -9,7 +9,8 @@ import {fieldsOf, placeOf, showBytes, sizeOf} from "./fields";
 import {AskedImage} from "./image";
 import {Facts, JournalRecord, TELEGRAM} from "./layouts";
 import {Order} from "./messages";
-import {brakeReason, brakeText, count, eventText, kmh, levelText, limitText, modeName, speedText} from "./shown";
+import {brakeReason, brakeText, count, eventText, levelText, limitText, modeName, permittedText} from "./shown";
+import {speedText} from "./shown";
 import {offerApart} from "./telegram";
 import {SAY} from "./texts";
 
@@ -42,8 +43,8 @@ export class EventView {
         say("ask-level", `level ${levelText(record.level)}`);
         say("ask-brake", brakeText(record.brake));
         at("ask-brake").className = `lamp brake-${record.brake}`;
-        say("ask-dial-said", `${speedText(speed)}, limit ${kmh(record.limit)} km/h`);
-        this.dial.setScale(scaleOf(Math.max(speed || 0, record.limit)));
+        say("ask-dial-said", `${speedText(speed)}, limit ${permittedText(record.limit)}`);
+        this.dial.setScale(scaleOf(Math.max(speed || 0, record.limit ?? 0)));
     }
 
     private showWhy({ id, replays, whys }: AskedImage, record: JournalRecord, speed: number): void {

@@ -28,7 +28,7 @@ const COLUMNS = [
     "event", "life", "block", "kind", "time_ms", "utc_by_marks", "utc_uncertainty_ms", "mode", "level", "brake",
     "indications", "place_cm", "uncertainty_cm", "limit_m_per_h", "speed_m_per_h"
 ] as const;
-type Row = Record<typeof COLUMNS[number], number|string|string[]|null>;
+type Row = Record<typeof COLUMNS[number], number|bigint|string|string[]|null>;
 
 function rowOf(record: JournalRecord, speed: number, utc: Utc|null): Row {
     return {
@@ -43,9 +43,9 @@ function rowOf(record: JournalRecord, speed: number, utc: Utc|null): Row {
         level: record.level === 255 ? null : record.level,
         brake: BRAKE_WORDS[record.brake] ?? "",
         indications: indicationWords(record.indications),
-        place_cm: record.hasPlace ? record.front : null,
-        uncertainty_cm: record.hasPlace ? record.uncertainty : null,
-        limit_m_per_h: record.hasPlace ? record.limit : null,
+        place_cm: record.front,
+        uncertainty_cm: record.uncertainty,
+        limit_m_per_h: record.limit,
         speed_m_per_h: Number.isNaN(speed) ? null : speed,
     };
 }
@@ -56,6 +56,14 @@ function rowsOf(image: AskedImage, indexes: number[]|null = null): Row[] {
     if (!records) return [];
     const all = indexes ?? Array.from({ length: records.count }, (_, n) => n);
     return all.map(n => rowOf(records.get(n), speeds[n] ?? NaN, image.utc(n)));
+}
+
+/** A value as JSON. A bigint is written as the number that it is, which no text of the value can look like. */
+function jsonText(value: object): string {
+    const mark = crypto.randomUUID();
+    const text =
+        JSON.stringify(value, (_, one: unknown) => typeof one === "bigint" ? `${mark}${one}` : one, 1) + "\n";
+    return text.replace(new RegExp(`"${mark}(\\d+)"`, "g"), "$1");
 }
 
 function imageOf({ name, bytes, digest, facts, identity }: AskedImage): object {
@@ -91,7 +99,7 @@ function jsonOf({ image, records, notes }: Findings): string {
         commands: one.steps.map(({ brake }) => BRAKE_WORDS[brake] ?? ""),
         causes: causeTextsOf(one.steps.map(({ index }) => causes.get(index))),
     }));
-    return JSON.stringify({
+    return jsonText({
         page: build(),
         image: imageOf(image),
         verdict: verdict && { status: verdict.length ? NOT_WHOLE : 0, says: verdict },
@@ -109,9 +117,7 @@ function jsonOf({ image, records, notes }: Findings): string {
         braking: image.braking,
         notes: notes(image),
         events: rowsOf(image),
-    },
-               null, 1) +
-        "\n";
+    });
 }
 
 /** What the viewer shows of each image: the records in its window that match its filter, and their notes. */
@@ -122,7 +128,7 @@ function seenJson({ notes }: Findings, { axis, from, to, filter, images }: Seen)
         const events = rowsOf(image, indexes), numbers = new Set(events.map(row => row.event));
         return { ...imageOf(image), notes: notes(image).filter(({ event }) => numbers.has(event)), events };
     });
-    return JSON.stringify({ page: build(), seen: { axis, ...window, filter }, images: all }, null, 1) + "\n";
+    return jsonText({ page: build(), seen: { axis, ...window, filter }, images: all });
 }
 
 /** The brake commands, a row each; a pair has two columns. */

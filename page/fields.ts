@@ -2,7 +2,8 @@
 import {Calls} from "./calls";
 import {make} from "./dom";
 import {JournalRecord, ODOMETER, POWER_UP, SECTOR, TELEGRAM} from "./layouts";
-import {reading, brakeText, count, indicationTexts, kmh, levelText, metres, modeName, seconds} from "./shown";
+import {brakeText, count, indicationTexts, kmh, levelText, metres, modeName, permittedText, reading} from "./shown";
+import {seconds} from "./shown";
 import {KINDS, KINDS_OWED, PLAIN_ACTIONS, SUBJECTS, TELEGRAM_FAULTS, WORDS} from "./texts";
 
 export interface Field {
@@ -36,11 +37,11 @@ function head(record: JournalRecord): Field[] {
         { name: "event", offset: 8, size: 8, value: count(record.event) },
         { name: "moment", offset: 16, size: 8, value: seconds(record.moment) },
     ];
-    if (!record.hasPlace) return fields;
+    if (record.front === null || record.uncertainty === null) return fields;
     return [
         ...fields, { name: "estimated place", offset: 24, size: 8, value: metres(record.front) },
         { name: "uncertainty", offset: 32, size: 8, value: metres(record.uncertainty) },
-        { name: "limit", offset: 40, size: 4, value: `${kmh(record.limit)} km/h` }
+        { name: "limit", offset: 40, size: 4, value: permittedText(record.limit) }
     ];
 }
 

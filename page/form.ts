@@ -2,9 +2,11 @@
 // layout. Another number gives other bits: a counter or a qualifier adds variables, or takes some away.
 import {Calls} from "./calls";
 import {Child, make} from "./dom";
+import {short} from "./escaping";
 import {flat, Item, layoutText, Leaf, walk, Wrong} from "./grammar";
 import {bitsOf, digitsOf} from "./hex";
 import {faultAt} from "./judging";
+import {mark} from "./numbers";
 import {quantity} from "./quantities";
 import {Field, HEAD_BITS, Reading, ReadPacket} from "./reading";
 import {FORM} from "./texts";
@@ -33,6 +35,7 @@ function offered(): [string, string][] {
 export class Form {
     private reading: Reading|null = null;
     private fault: Field|null = null;
+    private readonly said = make("p", { class: "bad", role: "alert" });
 
     /** `changed` is given the telegram in hex that comes of another number. */
     constructor(private readonly root: HTMLElement, private readonly calls: Calls,
@@ -97,7 +100,7 @@ export class Form {
             "aria-label": `${name}, ${title}`,
             "aria-invalid": isBad ? "true" : null
         });
-        input.addEventListener("change", () => this.change(() => this.altered(packet, field, input.value)));
+        input.addEventListener("change", () => this.change(() => this.altered(packet, field, input.value), input));
         return make("tr", { class: isBad ? "bad" : "" },
             make("th", { scope: "row", class: `depth-${Math.min(3, depth)}` }, name), make("td", {}, input),
             make("td", {}, isBad ? make("strong", { class: "bad" }, FORM.bad) : says),
@@ -116,21 +119,22 @@ export class Form {
 
     // ---- other bits
 
-    /** Hands on what comes of a change, once the focus is where it goes. */
-    private change(make: () => string): void {
+    /**
+     * Hands on what comes of a change, once the focus is where it goes. A wrong entry stays in its field, which is
+     * marked.
+     */
+    private change(make: () => string, field?: HTMLInputElement): void {
         setTimeout(() => {
+            this.said.remove();
             try {
                 this.changed(telegrams.fits(digitsOf(make())));
             } catch (error) {
                 if (!(error instanceof Wrong)) throw error;
-                this.say(error.message);
+                if (field) mark(field, false);
+                this.said.textContent = `${error.message}.`;
+                this.root.prepend(this.said);
             }
         });
-    }
-
-    private say(text: string): void {
-        this.show(digitsOf(this.bits(0, Infinity)));
-        this.root.prepend(make("p", { class: "bad", role: "alert" }, `${text}.`));
     }
 
     /** The bits with others from one on up to an end; zeros after the end mark that only filled a byte are gone. */
@@ -141,7 +145,7 @@ export class Form {
     }
 
     private altered(packet: ReadPacket|null, field: Field, text: string): string {
-        if (!/^\s*[0-9]{1,20}\s*$/.test(text)) throw new Wrong(FORM.noNumber(text));
+        if (!/^\s*[0-9]{1,20}\s*$/.test(text)) throw new Wrong(FORM.noNumber(field.name, short(text)));
         const number = BigInt(text), bits = telegrams.bits([[field.name, number]]);
         const take = (name: string, before: Leaf|undefined): Leaf =>
             ({ name, number: before === field ? number : before?.number ?? given.grammar.usual[name] ?? 0 });

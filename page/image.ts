@@ -16,14 +16,16 @@ export interface MarksFile {
     name: string;
     read: MarksRead|string
 }
-/** What is handed over. */
+/** What is handed over. The name is as it is shown: characters that can't be seen are spelled. */
 export interface Given {
     name: string;
     file: Blob;
     marks: MarksFile|null;
     identity: Identity|null;
     /** The slots that are taken for those of the first sector; null where the first sector is read. */
-    slots: number|null
+    slots: number|null;
+    /** How many bytes are read, the first ones; null where all are. */
+    first: number|null
 }
 
 export class AskedImage {
@@ -67,6 +69,8 @@ export class AskedImage {
     get name(): string { return this.given.name; }
     get letter(): string { return String.fromCharCode(65 + this.place); }
     get isBySlots(): boolean { return this.given.slots !== null; }
+    /** How many of its bytes are read. */
+    get bytesRead(): number { return Math.min(this.bytes.length, this.given.first ?? Infinity); }
 
     /** Takes what the worker reports. */
     hear(report: Report): void {
@@ -88,7 +92,7 @@ export class AskedImage {
             for (const name of ["slots", "newest", "unwritten"] as const)
                 Object.assign(this, { [name]: report[name] });
             for (const head of report.heads) this.heads.set(head.number, head);
-            this.isWhole = report.isWhole && !this.isBySlots;
+            this.isWhole = report.isWhole && !this.isBySlots && this.bytesRead === this.bytes.length;
             break;
         case "replay": this.replays = report.lives; break;
         case "causes":

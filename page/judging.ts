@@ -4,7 +4,7 @@ import {Wrong} from "./grammar";
 import {bitsOf, bytesOfHex, digitsOf} from "./hex";
 import {Field, HEAD_BITS, Reading} from "./reading";
 import {JUDGED, TELEGRAM_FAULTS} from "./texts";
-import {telegrams} from "./tracks";
+import {given, telegrams} from "./tracks";
 
 /** What the unit makes of telegrams: takes all, skips something, or refuses one. */
 export type Kind = "good"|"warn"|"bad";
@@ -15,6 +15,8 @@ export interface Judged {
     kind: Kind
 }
 const TRUNCATED = 1, WRONG_LENGTH = 2, NO_END = 8, TOO_LONG = 9;
+/** Of more digits only the beginning is judged: the unit refuses it for its length. */
+const MOST_DIGITS = 2 * given.grammar.mostBytes;
 /**
  * The packet from which on the kernel uses nothing (docs/explain/conformance.md), and how many numbers are tried of a
  * variable.
@@ -50,7 +52,8 @@ function unused(numbers: number[]): string {
 /** What the unit says of a telegram that is given by its variables, or in hex. */
 export function judge(calls: Calls, text: string): Judged {
     try {
-        const digits = digitsOfText(text), [fault, count] = calls.decode(bytesOfHex(digits));
+        const all = digitsOfText(text), isLong = all.length > MOST_DIGITS, digits = isLong ? "" : all;
+        const [fault, count] = calls.decode(bytesOfHex(all.slice(0, MOST_DIGITS + 2)));
         if (fault) return { digits, kind: "bad", says: JUDGED.refused(fault, TELEGRAM_FAULTS[fault] ?? "") };
         const says = unused(telegrams.reader.read(bitsOf(digits)).packets.map(one => one.number));
         return { digits, kind: says ? "warn" : "good", says: says || JUDGED.obeyed(count) };

@@ -1,5 +1,6 @@
 // What is taken from a disk and put there: images, scenarios and test cases. Nothing is kept by itself.
 import {caseText} from "./cases";
+import {nameOf} from "./choosing";
 import {at, save, say} from "./dom";
 import {Drive} from "./drive";
 import {textOf} from "./life";
@@ -11,13 +12,16 @@ const MOST_BYTES = 16 * 1024 * 1024;
 
 /** Takes the scenario of a file as a track of one's own, with its steps as the story. */
 async function open(drive: Drive, file: File): Promise<void> {
+    const name = nameOf(file);
     try {
         if (file.size > MOST_BYTES) throw new NotScenario("it has more than 16 MB");
         const scenario = readScenario(new Uint8Array(await file.arrayBuffer()));
-        const track = { name: EDIT.own + file.name, text: SAY.ownText, scenario, restart: null };
+        const track = { name: EDIT.own + name, text: SAY.ownText, scenario, restart: null };
         drive.board(addTrack(track));
     } catch (error) {
-        say("drive-error", error instanceof NotScenario ? SAY.notScenario(file.name, error.message) : String(error));
+        const why = error instanceof DOMException ? SAY.unreadableFile : String(error);
+        say("drive-error",
+            error instanceof NotScenario ? SAY.notScenario(name, error.message) : SAY.noImage(name, why));
     }
 }
 

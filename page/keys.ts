@@ -2,7 +2,7 @@
 import {at, make, row, say, show, table} from "./dom";
 import {Drive} from "./drive";
 import {identityOf, numbersOf, RUNNING, TRAIN_DATA} from "./entries";
-import {choose} from "./tabs";
+import {setTabs} from "./tabs";
 
 interface Action {
     id: string;
@@ -115,7 +115,5 @@ export function setKeys(drive: Drive): void {
         else return;
         event.preventDefault();
     });
-    at("tab-drive").addEventListener("click", () => choose("drive"));
-    at("tab-ask").addEventListener("click", () => choose("ask"));
-    at("tab-telegram").addEventListener("click", () => choose("telegram"));
+    setTabs();
 }

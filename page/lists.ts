@@ -45,7 +45,7 @@ export class Lists {
             const texts = interventionTexts(records, one, speeds[one.first] ?? NaN, trips, causes);
             return this.linked(row(...texts, ...this.dayCells(records, one.first)), records.event(one.first));
         });
-        const heads = ["events", "place", "time", "speed", "command", "causes", ...this.dayHeads()];
+        const heads = ["events", "place", "time", "speed", "limit", "command", "causes", ...this.dayHeads()];
         show("interventions", all.length ? table(heads, rows) : BRIEF.noIntervention,
             all.length > MOST_SHOWN && make("p", {}, BRAKED.more(count(MOST_SHOWN), count(all.length))));
     }

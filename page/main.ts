@@ -97,4 +97,5 @@ async function begin(): Promise<void> {
 const dark = matchMedia("(prefers-color-scheme: dark)");
 document.documentElement.classList.toggle("dark", dark.matches);
 at("theme").addEventListener("click", () => document.documentElement.classList.toggle("dark"));
+addEventListener("unhandledrejection", ({ reason }) => say("sentence", String(reason)));
 begin().catch((error: unknown) => say("sentence", String(error)));

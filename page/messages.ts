@@ -19,7 +19,9 @@ export interface ImageOrder {
     id: number;
     file: Blob;
     /** The slots that are taken for those of the first sector; null where the first sector is read. */
-    slots: number|null
+    slots: number|null;
+    /** How many bytes are read; null where all are. */
+    first: number|null
 }
 /** Forgets an image. */
 export interface DropOrder {
@@ -139,5 +141,6 @@ export interface Head {
     number: number;
     firstEvent: number;
     events: number;
-    lives: number
+    lives: number;
+    records: number
 }

@@ -1,6 +1,6 @@
 // The steps of a start of mission, and which of them are done: by what the head of the newest block keeps; what is
 // owed; and which buttons would have no effect now, by the driver's table (tools/tables) and what the unit says.
-import {at, make, show} from "./dom";
+import {at, make, say, show} from "./dom";
 import {Kept} from "./layouts";
 import {IDLE, MISSION, modeIn, OWED} from "./texts";
 
@@ -8,7 +8,8 @@ const VALID = 1, NOT_REVALIDATED = 32;
 
 /** The steps, each with a place for its button. */
 export function showMission(): void {
-    show("mission", ...MISSION.map((text, n) => make("li", { id: `mission-${n}` }, make("span", {}, text))),
+    const step = (n: number): Node => make("li", { id: `mission-${n}` }, make("span", { id: `mission-said-${n}` }));
+    show("mission", ...MISSION.map((_, n) => step(n)),
         make("li", { id: "mission-all" }));
 }
 
@@ -24,7 +25,10 @@ export interface Now {
 export function showSteps({kept, indications}: Now): void {
     const done =
         [kept.identity !== null, kept.levelStatus === VALID, kept.train !== null, !(indications & NOT_REVALIDATED)];
-    for (const [n, is] of done.entries()) at(`mission-${n}`).className = is ? "done" : "owes";
+    for (const [n, is] of done.entries()) {
+        at(`mission-${n}`).className = is ? "done" : "owes";
+        say(`mission-said-${n}`, MISSION[n]?.[Number(is)] ?? "");
+    }
 }
 
 /** Why a button would have no effect now; nothing where it may have one. */

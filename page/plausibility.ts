@@ -301,7 +301,7 @@ export class Judge {
     private pass(n: number, isTelegram: boolean): void {
         const { records } = this, passed = this.lives[this.lives.length - 1];
         if (!passed) return;
-        const at = passed.end = { place: records.front(n), uncertainty: records.uncertainty(n) };
+        const at = passed.end = { place: records.front(n) ?? 0, uncertainty: records.uncertainty(n) };
         const group = isTelegram ? this.groupOf(records.get(n).payload) : null;
         if (group !== null && passed.groups[passed.groups.length - 1]?.group !== group)
             passed.groups.push({ group, life: passed.life, event: records.event(n), ...at });

@@ -119,8 +119,10 @@ export function readScenario(bytes: Uint8Array): Scenario {
             return typeof value === "number" && !WHOLE.test(context?.source ?? String(value)) ? NaN : value;
         });
     } catch (error) {
-        throw new NotScenario(
-            error instanceof SyntaxError ? `this is no JSON${placeIn(error.message)}` : "it isn't text in UTF-8");
+        // (a list in a list in a list takes the browser's stack)
+        throw new NotScenario(error instanceof SyntaxError ? `this is no JSON${placeIn(error.message)}`
+                : error instanceof RangeError              ? "its lists and objects are nested too deeply"
+                                                           : "it isn't text in UTF-8");
     }
     const it = members(given, ""), hasCold = "cold" in it;
     only(it, hasCold ? ["cold", "groups", "steps"] : ["groups", "steps"], "");

@@ -15,8 +15,17 @@ export function general(number: number, by: number): string {
     if (times < 6) return String(Number(`${digits}e${power}`));
     return `${short}e+${String(times).padStart(2, "0")}`;
 }
-export function metres(cm: number): string {
+export function metres(cm: number|bigint): string {
+    if (typeof cm === "bigint") return `${(cm / 100n).toLocaleString("en")}.${String(cm % 100n).padStart(2, "0")} m`;
     return (cm / 100).toLocaleString("en", { minimumFractionDigits: 2, maximumFractionDigits: 2 }) + " m";
+}
+/** A place of a record with its uncertainty, and a limit: a record of format 1 has neither. */
+export function placeText(front: number|null): string { return front === null ? SAY.notRecorded : metres(front); }
+export function frontText({front, uncertainty}: Pick<JournalRecord, "front"|"uncertainty">): string {
+    return uncertainty === null ? placeText(front) : `${placeText(front)} ± ${metres(uncertainty)}`;
+}
+export function permittedText(limit: number|null): string {
+    return limit === null ? SAY.notRecorded : `${kmh(limit)} km/h`;
 }
 export function seconds(ms: number): string {
     return (ms / 1000).toLocaleString("en", { maximumFractionDigits: 3 }) + " s";

@@ -9,9 +9,11 @@ import {Times} from "./times";
 export const NOTHING = 255, SEVERAL = 254;
 
 export interface Signals {
+    /** The number of the event. */
+    event: Float64Array;
     moment: Float64Array;
     place: Float64Array;
-    /** In m/h; a speed that isn't known, or a limit that a record lacks, is NaN. */
+    /** In m/h; a speed that isn't known is NaN, and so are the place and the limit that a record of format 1 lacks. */
     speed: Float64Array;
     limit: Float64Array;
     kind: Uint8Array;
@@ -20,11 +22,12 @@ export interface Signals {
     level: Uint8Array
 }
 
-/** The signals of records, and their buffers. Format 1 has no places and limits. */
+/** The signals of records, and their buffers. */
 export function signalsOf(bytes: Uint8Array, records: Records, speed: Float64Array): [Signals, Transferable[]] {
     const { count } = records, reader = new Reader(new DataView(bytes.buffer, bytes.byteOffset, bytes.byteLength));
     const wide = (): Float64Array => new Float64Array(count), narrow = (): Uint8Array => new Uint8Array(count);
     const all: Signals = {
+        event: wide(),
         moment: wide(),
         place: wide(),
         speed,
@@ -36,9 +39,10 @@ export function signalsOf(bytes: Uint8Array, records: Records, speed: Float64Arr
     };
     for (let n = 0; n < count; n++) {
         const at = BYTES.record * n;
+        all.event[n] = records.event(n);
         all.moment[n] = records.moment(n);
-        all.place[n] = records.front(n);
-        all.limit[n] = reader.hasPlace(at) ? records.limit(n) : NaN;
+        all.place[n] = records.front(n) ?? NaN;
+        all.limit[n] = records.limit(n) ?? NaN;
         all.kind[n] = records.kind(n);
         all.brake[n] = records.brake(n);
         all.mode[n] = records.mode(n);
@@ -47,8 +51,10 @@ export function signalsOf(bytes: Uint8Array, records: Records, speed: Float64Arr
     return [all, Object.values(all).map(array => array.buffer as ArrayBuffer)];
 }
 
-export type AxisKind = "moment"|"place"|"utc";
-/** Where a life of an image is on its axis: its values with an offset, from low to high. */
+export type AxisKind = "moment"|"place"|"event"|"utc";
+/** What is one on the labels of each axis. */
+const PER: Record<AxisKind, number> = {moment: 1000, place: 100, event: 1, utc: 1000};
+/** Where a life of an image, or a part of one, is on its axis: its values with an offset, from low to high. */
 export interface Span {
     life: LifeRange;
     offset: number;
@@ -65,13 +71,25 @@ export interface Axis {
     /** The ends of what all images have. */
     low: number;
     high: number;
-    /** Lives of the image that have no place on the axis. */
+    /** Records of the image that have no place on the axis. */
     leftOut: number;
     /** What is one on its labels. */
     per: number
 }
 /** The part of an axis that gaps have. */
 const GAPS = 0.04;
+
+/** The parts of a life whose records have a value: one of format 1 has no place. */
+function partsOf(values: Float64Array, { from, end, number }: LifeRange): LifeRange[] {
+    const found: LifeRange[] = [];
+    let last: LifeRange|null = null;
+    for (let n = from; n < end; n++) {
+        if (Number.isNaN(values[n])) last = null;
+        else if (last) last.end = n + 1;
+        else found.push(last = { from: n, end: n + 1, number });
+    }
+    return found;
+}
 
 function spanOf(values: Float64Array, life: LifeRange): Span {
     let low = Infinity, high = -Infinity, isSorted = true;
@@ -120,13 +138,15 @@ function placeByUtc(spans: Span[], times: Times|null): Span[] {
 }
 
 /**
- * The axes of some images, on which a place means the same: a moment or a place of the lives of one number, or a time
- * of day.
+ * The axes of some images, on which a place means the same: a moment, a place or an event of the lives of one number,
+ * or a time of day.
  */
 export function axesOf(kind: AxisKind, sources: Source[]): Axis[] {
-    const per = kind === "place" ? 100 : 1000;
-    const values = sources.map(({ signals }) => kind === "place" ? signals.place : signals.moment);
-    let spans = sources.map(({ lives }, n) => lives.map(life => spanOf(values[n] ?? new Float64Array(), life)));
+    const per = PER[kind], values = sources.map(({ signals }) => signals[kind === "utc" ? "moment" : kind]);
+    let spans = sources.map(({ lives }, n) => {
+        const own = values[n] ?? new Float64Array();
+        return lives.flatMap(life => partsOf(own, life)).map(part => spanOf(own, part));
+    });
     if (kind === "utc") spans = spans.map((all, n) => placeByUtc(all, sources[n]?.times ?? null));
     else placeByNumber(spans.flat(), per);
     for (const span of spans.flat()) {
@@ -136,11 +156,11 @@ export function axesOf(kind: AxisKind, sources: Source[]): Axis[] {
     let [low, high] = [Infinity, -Infinity];
     for (const span of spans.flat()) [low, high] = [Math.min(low, span.low), Math.max(high, span.high)];
     if (low > high) low = high = 0;
-    return sources.map(({ lives }, n) => {
+    return sources.map((_, n) => {
         const own = values[n] ?? new Float64Array(), x = new Float64Array(own.length).fill(NaN), of = spans[n] ?? [];
         for (const { life, offset } of of)
             for (let at = life.from; at < life.end; at++) x[at] = (own[at] ?? 0) + offset;
-        const leftOut = lives.length - of.length;
+        const leftOut = x.reduce((all, place) => all + Number(Number.isNaN(place)), 0);
         return { kind, x, spans: of, low, high: Math.max(high, low + per), leftOut, per };
     });
 }

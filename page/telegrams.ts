@@ -1,5 +1,6 @@
 // Telegrams by the variables of SUBSET-026, 7.5.1, as scenarios in YAML give them (docs/reference/test-cases.md), and
 // the bits that they come to. Whether a telegram is one the unit says.
+import {short} from "./escaping";
 import {Grammar, isChoice, isList, Leaf, Part, Wrong} from "./grammar";
 import {bitsOf, digitsOf} from "./hex";
 import {HEAD_BITS, Reader} from "./reading";
@@ -103,7 +104,7 @@ export class Telegrams {
     private pairs(text: string): Pairs {
         return text.split(",").map(one => one.trim()).filter(one => one).map(one => {
             const found = /^([A-Z][A-Z_0-9]*)\s+([0-9]{1,20})$/.exec(one);
-            if (!found) throw new Wrong(`"${one}" is no variable with a number`);
+            if (!found) throw new Wrong(`"${short(one)}" is no variable with a number`);
             this.width(found[1] ?? "");
             const number = Number(found[2]);
             return [found[1] ?? "", Number.isSafeInteger(number) ? number : BigInt(found[2] ?? "")];
@@ -145,7 +146,7 @@ export class Telegrams {
         const packets = rest.map(one => {
             const [head = "", ...body] = one.trim().split(":"), number = head.trim();
             if (!/^[0-9]{1,3}$/.test(number) || Number(number) > this.grammar.endMark)
-                throw new Wrong(`"${one.trim()}" begins with no number of a packet`);
+                throw new Wrong(`"${short(one.trim())}" begins with no number of a packet`);
             return this.packet(Number(number), this.pairs(body.join(":")));
         });
         return { header: [...header].map(([name, number]) => [name, number ?? 0]), packets };

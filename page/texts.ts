@@ -113,22 +113,35 @@ export const SAY = {
         `and here are ${bytes.toLocaleString("en")}. Copy it from the medium again. If that can't be done, the ring ` +
         `shows each slot that is here; and in a copy lengthened with zeros (truncate -s ${expected} COPY) the ` +
         "journal can be read up to its newest block.",
-    assumed: "entered by hand, since the first sector can't be used",
-    unreadableFile: "the browser can't read the file; perhaps it was moved, altered or removed since it was chosen",
+    tooShort: (name: string, bytes: number, slots: number, expected: number): string =>
+        `${name}: ${slots.toLocaleString("en")} slots have ${expected.toLocaleString("en")} bytes, ` +
+        `and here are ${bytes.toLocaleString("en")}.`,
+    tooLong: (name: string, bytes: number, slots: number, expected: number): string =>
+        `${name} is longer than its journal: by its first sector it has ${slots.toLocaleString("en")} slots, so ` +
+        `${expected.toLocaleString("en")} bytes, and here are ${bytes.toLocaleString("en")}. ` +
+        "Its first bytes can be read; the file stays as it is.",
+    assumed: "entered by hand",
+    unreadableFile: "the browser can't read it; perhaps it is a folder, or was moved, altered or removed " +
+        "since it was chosen",
     notScenario: (name: string, why: string): string => `${name} isn't a scenario that etcs run reads: ${why}.`,
     noCase: "There is no test case of this: nothing was driven yet, or a life ended within a write.",
     caseTooLong:
         "There is no test case of this: the ring of the desk was written over, so its lives can't be run again.",
     ownText: "A scenario of your own. Its groups lie on the track; its steps are its story.",
     reading: "The image is read.",
-    progress: (done: number, all: number, what: string): string => `${what}: ${done} of ${all}`,
+    /** `all` is 0 where it isn't known. */
+    progress: (done: number, all: number, what: string): string => all ? `${what}: ${done} of ${all}`
+        : done                                                         ? `${what}: ${done}`
+                                                                       : `${what} …`,
     whole: "Each slot is as a unit leaves it, and no block of the journal is missing.",
+    wholeButDiffers: "Each slot can be read, and no block of the journal is missing; but the replay differs.",
     notWhole: "Not whole: the slots say what is lost.",
     agrees: "The kernel would have answered so to each event that is run again.",
     differs: "The kernel would have answered otherwise.",
     authentic: "Agreement means that the journal is consistent with this kernel, and not that it is authentic.",
     noRecord: "No record can be read.",
     unknown: "unknown",
+    notRecorded: "not recorded",
     ran: (m: string): string => `Without power the train ran on for ${m}, and stands.`,
     powerOff: "Power is off. Say what is known of movements, and power up.",
     kept: "What the unit kept",
@@ -142,7 +155,6 @@ export const BRIEF = {
     noReplay: "its life can't be run again",
     causeNotKnown: (reason: string): string => `cause not known: ${reason}`,
     none: "none",
-    unknownSpeed: "at an unknown speed",
     noIntervention: "none but what each power-up commands",
     earlier: (trips: number): string => `${trips} earlier one${trips === 1 ? "" : "s"}`,
     notKnown: "not known: the newest block can't be read",
@@ -210,7 +222,7 @@ export const FORM = {
     tooShort: "Its bits end before its layout does.",
     otherLength: (bits: number): string => `Its layout has ${bits} bits, and its L_PACKET says another number.`,
     rest: (first: number, last: number): string => `Bits ${first} to ${last}, which no variable has: `,
-    noNumber: (text: string): string => `"${text}" is no number`,
+    noNumber: (name: string, text: string): string => `${name}: "${text}" is no number`,
     bad: "the fault is here",
     end: (bit: number): string => `The end mark is at bit ${bit}.`,
     noEnd: "No end mark is found",
@@ -240,8 +252,12 @@ export const CASE_WORDS = {
     cold: ["unknown", "moved", "not_moved"],
 };
 
-export const MISSION =
-    ["the identity is known", "the level is valid", "the train data are known", "the mission has begun"];
+/** Each step of a start of mission, as long as it isn't done and from then on. */
+export const MISSION = [
+    ["the identity isn't known yet", "the identity is known"], ["the level isn't valid yet", "the level is valid"],
+    ["the train data aren't known yet", "the train data are known"],
+    ["the mission hasn't begun yet", "the mission has begun"]
+];
 /** Why a button would have no effect, and the modes in which the driver's table accepts an action. */
 export const IDLE = {
     off: "Power is off",
@@ -271,9 +287,14 @@ export function modeIn(modes: number[]): string { return modes.map(mode => MODES
 /** An entry of the driver that is outside its limits. */
 export const ENTRY = {
     identity: "The identity has 1 to 16 letters, digits and other characters of ASCII. Nothing was entered.",
-    limits: (what: string, least: string, most: string): string =>
-        `${what}: a number from ${least} to ${most}. Nothing was entered.`,
+    limits: (what: string, least: string, most: string, scale: number): string => `${what}: a ${
+        scale === 1 ? "whole number" : `number with up to ${Math.log10(scale)} decimals`} from ${least} to ${most}. ` +
+        "Nothing was entered.",
+    event: (event: string): string => `Events are whole numbers from 0 on, and "${event}" is none.`,
+    place: (least: string, most: string): string =>
+        `A number of metres with up to 2 decimals from ${least} to ${most} is wanted. Nothing was changed.`,
     slots: "A number of slots is from 2 to 1,048,576. Nothing was read.",
+    readFirst: (bytes: number): string => `Read the first ${bytes.toLocaleString("en")} bytes`,
 };
 export const NOTHING_TO_DRAW = "Nothing to draw: all events have one value here.";
 export const OWED: [number, number, string][] = [

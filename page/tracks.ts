@@ -29,10 +29,9 @@ export const telegrams = new Telegrams(given.grammar);
 
 /** The fields of a telegram, for the drawing of what lies ahead; none of one that can't be read. */
 function learn(digits: string): void {
-    if (digits.toUpperCase() in given.decoded) return;
     try {
         const { header, packets } = telegrams.read(digits);
-        given.decoded[digits.toUpperCase()] = {
+        given.decoded[digits] = {
             header: Object.fromEntries(header.map(([name, number]) => [name, Number(number)])),
             packets: packets.map(
                 ([[, packet] = ["", 0], ...fields]) =>
@@ -46,8 +45,9 @@ function learn(digits: string): void {
 /** The telegrams of a scenario that the unit doesn't refuse have fields from here on. */
 export function learnAll(scenario: Scenario, isRead: (digits: string) => boolean): void {
     const telegrams = scenario.steps.flatMap(step => "telegram" in step ? [step.telegram] : []);
-    for (const digits of [...scenario.groups.flatMap(group => group.balises), ...telegrams])
-        if (isRead(digits)) learn(digits);
+    const all = [...scenario.groups.flatMap(group => group.balises), ...telegrams].map(digits => digits.toUpperCase());
+    for (const digits of new Set(all))
+        if (!(digits in given.decoded) && isRead(digits)) learn(digits);
 }
 
 /** Adds a track, or puts it in the place of the one of this name; answers its number. */

@@ -5,14 +5,14 @@ import {at, make, say, show, svg} from "./dom";
 import {Layer as Drawn, layoutOf, LEFT, paint, plotWidth, TOP} from "./drawing";
 import {Filter} from "./filter";
 import {AskedImage} from "./image";
-import {brakeText, count, kmh, levelText, metres, modeName, seconds, speedText} from "./shown";
+import {brakeText, count, levelText, modeName, permittedText, placeText, seconds, speedText} from "./shown";
 import {axesOf, Axis, AxisKind, heldAt, nearest, Signals, Source} from "./signals";
 import {DAY} from "./texts";
 import {iso, Times} from "./times";
 import {VIEW} from "./wording";
 
-const KINDS: AxisKind[] = ["moment", "place", "utc"], ZOOM = 1.25, PAN = 0.1, CLICK = 4, NARROWEST = 0.02, PAD = 0.01,
-             FAR = 1e9;
+const KINDS: AxisKind[] = ["moment", "place", "event", "utc"];
+const ZOOM = 1.25, PAN = 0.1, CLICK = 4, NARROWEST = 0.02, PAD = 0.01, FAR = 1e9;
 
 /** What is seen: the records of a window that match a filter, of each image. */
 export interface Seen {
@@ -37,6 +37,8 @@ export class Viewer {
     private layers: Layer[] = [];
     /** The image whose record the cursor is at. */
     private chosen: AskedImage|null = null;
+    /** The axis that was chosen by hand. */
+    private wanted: AxisKind|null = null;
     private from = 0;
     private to = 1;
     private frame = 0;
@@ -50,7 +52,7 @@ export class Viewer {
     constructor(private readonly pick: (image: AskedImage, index: number) => void,
         private readonly notes: (image: AskedImage) => number[]) {
         const kind = at<HTMLSelectElement>("viewer-axis");
-        kind.addEventListener("change", () => this.setAxis(kind.value as AxisKind));
+        kind.addEventListener("change", () => this.setAxis(this.wanted = kind.value as AxisKind));
         const acts: [string, () => void][] = [
             ["in", () => this.zoom(1 / ZOOM ** 2)], ["out", () => this.zoom(ZOOM ** 2)], ["left", () => this.pan(-PAN)],
             ["right", () => this.pan(PAN)], ["all", () => this.showAll()], ["life", () => this.showLife()]
@@ -76,11 +78,13 @@ export class Viewer {
             return;
         }
         this.filter.take(this.images.flatMap(({ signals }) => signals ?? []));
-        const kind = at<HTMLSelectElement>("viewer-axis"), before = kind.value as AxisKind;
-        const timed = this.images.map(isTimed), kinds = timed.includes(true) ? KINDS : KINDS.slice(0, 2);
+        const kind = at<HTMLSelectElement>("viewer-axis"), wanted = this.wanted === "utc" ? null : this.wanted;
+        const timed = this.images.map(isTimed), kinds = timed.includes(true) ? KINDS : KINDS.slice(0, 3);
         kind.replaceChildren(...kinds.map(value => make("option", { value }, VIEW.axes[value])));
         const isUtc = timed.every(one => one);
-        this.setAxis(isUtc ? "utc" : kinds.includes(before) && before !== "utc" ? before : "moment");
+        // (without a clock event all moments are 0)
+        const usual = this.images.some(({ signals }) => signals?.moment.some(one => one > 0)) ? "moment" : "event";
+        this.setAxis(isUtc ? "utc" : wanted ?? usual);
     }
 
     private setAxis(kind: AxisKind): void {
@@ -245,7 +249,7 @@ export class Viewer {
         const left = layers.reduce((all, { axis }) => all + axis.leftOut, 0);
         say("viewer-said",
             VIEW.seen(sum(one => one.columns.count), sum(one => one.axis.x.length), sum(one => one.columns.matches)) +
-                (left ? VIEW.notTimed(left) : ""));
+                (left ? VIEW.leftOut(left, kind) : ""));
     }
 
     private utcUnit(): string {
@@ -260,11 +264,11 @@ export class Viewer {
 
     private moveCursor(): void {
         const { place: x, layers, chosen } = this, isSeen = x >= this.from && x <= this.to;
-        const says = layers.map(({ image, signals, axis }) => {
+        const says = layers.map(({ image, axis }) => {
             const index = image === chosen ? image.index : heldAt(axis, x), { letter } = image;
-            if (layers.length === 1) return cursorText(signals, index ?? 0);
+            if (layers.length === 1) return cursorText(image, index ?? 0);
             if (index === null) return VIEW.nothingAt(letter);
-            return VIEW.ofImage(letter, count(image.records?.event(index) ?? 0), cursorText(signals, index));
+            return VIEW.ofImage(letter, count(image.records?.event(index) ?? 0), cursorText(image, index));
         });
         if (says.join() !== [...at("viewer-at").children].map(({ textContent }) => textContent).join())
             show("viewer-at", ...says.map(text => make("p", {}, text)));
@@ -307,16 +311,18 @@ function isTimed({ lives, times, signals }: AskedImage): boolean {
 function sourceOf({ lives, times }: AskedImage, signals: Signals): Source { return { signals, lives, times }; }
 
 /** All signals at a record. */
-function cursorText({ moment, place, speed, limit, brake, mode, level }: Signals, n: number): string {
-    const allowed = limit[n] ?? NaN, limitText = Number.isNaN(allowed) ? VIEW.noLimit : `${kmh(allowed)} km/h`;
-    return VIEW.cursor(speedText(speed[n] ?? NaN), limitText, brakeText(brake[n] ?? 0), modeName(mode[n] ?? 0),
-        levelText(level[n] ?? 0), metres(place[n] ?? 0), seconds(moment[n] ?? 0));
+function cursorText({ records, speeds }: AskedImage, n: number): string {
+    if (!records?.count) return "";
+    const { limit, brake, mode, level, front, moment } = records.get(n);
+    return VIEW.cursor(speedText(speeds[n] ?? NaN), permittedText(limit), brakeText(brake), modeName(mode),
+        levelText(level), placeText(front), seconds(moment));
 }
 
 /** What stands at a place of an axis. */
 const LABELS: Record<AxisKind, (times: Times|null) => (life: number, value: number) => string> = {
     moment: () => (_, ms) => (ms / 1000).toLocaleString("en", { maximumFractionDigits: 3 }),
     place: () => (_, cm) => (cm / 100).toLocaleString("en"),
+    event: () => (_, event) => Number.isInteger(event) ? event.toLocaleString("en") : "",
     utc: times => (life, ms) => utcLabel(times, life, Math.round(ms))
 };
 

@@ -1,10 +1,11 @@
-// Whether an image is whole, by what the calls say of its slots and records: nothing is lost, and all of it follows one
-// another.
+// Whether an image is whole, by the rule of `etcs_lab check` (crates/lab_examine/specs/Verdicts.antt) on what the calls
+// say of slots, heads and records: no call of the library answers it.
 import {END, Records} from "./calls";
 import {Facts, POWER_UP, Slot} from "./layouts";
 import {Head} from "./messages";
 
-const MOST_LIVES = 0xffffffff;
+/** The greatest number of lives of a head, and the number of a block after which a power-up is refused. */
+const MOST_LIVES = 0xffffffff, LAST_NUMBER = 2 ** 40;
 
 /** How many power-ups each block contains, and whether a moment goes back within a life. */
 function contents(records: Records): { powerUps: Map<number, number>; goesBack: boolean } {
@@ -17,15 +18,18 @@ function contents(records: Records): { powerUps: Map<number, number>; goesBack: 
     return { powerUps, goesBack };
 }
 
+/** Whether a block with so many power-ups follows the one before; of the oldest block whether its lives can be. */
+function follows(before: Head|undefined, head: Head, powerUps: number): boolean {
+    if (!before) return Math.max(powerUps, 1) <= head.lives && head.lives <= powerUps + head.firstEvent;
+    return head.number === before.number + 1 && head.events === before.events + head.records &&
+        head.lives === Math.min(MOST_LIVES, before.lives + powerUps);
+}
+
 export function isWhole(facts: Facts, slots: Slot[], heads: Head[], records: Records, status: number): boolean {
     if (status !== END || facts.whole !== facts.slots || facts.sectors !== 1 + 6 * facts.slots) return false;
-    if (!slots.every(slot => slot.isSound) || heads.length !== Math.min(facts.newest, facts.slots)) return false;
+    if (facts.newest >= LAST_NUMBER || !slots.every(slot => slot.isSound)) return false;
+    if (heads.length !== Math.min(facts.newest, facts.slots)) return false;
     const sorted = [...heads].sort((one, other) => one.number - other.number);
     const { powerUps, goesBack } = contents(records);
-    return !goesBack && sorted.every((head, n) => {
-        const before = sorted[n - 1], more = powerUps.get(head.number) ?? 0;
-        if (!before) return head.lives >= more && (head.number > 1 || (head.firstEvent === 0 && head.lives === more));
-        return head.number === before.number + 1 && head.firstEvent === before.events &&
-            head.lives === Math.min(MOST_LIVES, before.lives + more);
-    });
+    return !goesBack && sorted.every((head, n) => follows(sorted[n - 1], head, powerUps.get(head.number) ?? 0));
 }

@@ -3,6 +3,7 @@
 import {Braking} from "./braking";
 import {general} from "./shown";
 import {Finding} from "./plausibility";
+import {AxisKind} from "./signals";
 
 /** The members of a record, and of what a head keeps, as `etcs_lab replay` names them. */
 export const RECORD_NAMES = [
@@ -79,23 +80,24 @@ export const BRAKED = {
 };
 
 export const VIEW = {
-    axes: {moment: "Time of each life", place: "Place", utc: "UTC by marks"},
-    units: {moment: "s of the life", place: "m"},
+    axes: {moment: "Time of each life", place: "Place", event: "Event", utc: "UTC by marks"},
+    units: {moment: "s of the life", place: "m", event: "event"},
     lanes: {place: "place", moment: "time", brake: "brake", mode: "mode", level: "level", events: "events"},
     brakes: ["", "service", "emergency"],
     life: (number: number): string => `life ${number}`,
     several: "several",
     seen: (events: string, all: string, matching: string): string =>
         `${events} of ${all} events are in the window; ${matching} of these match the filter.`,
-    notTimed: (lives: number): string =>
-        ` ${lives} ${lives === 1 ? "life has" : "lives have"} no UTC and ${lives === 1 ? "isn't" : "aren't"} drawn.`,
-    noLimit: "not recorded",
+    leftOut: (events: number, axis: AxisKind): string => ` ${events.toLocaleString("en")} event${
+        events === 1 ? " has no" : "s have no"} ${axis === "place" ? "place" : "UTC"} and ${
+        events === 1 ? "isn't" : "aren't"} drawn.`,
+    noPlaces: "no place is recorded",
     lifeOf: (letter: string, number: number): string => `${letter} life ${number}`,
     nothingAt: (letter: string): string => `${letter}: no event here.`,
     ofImage: (letter: string, event: string, says: string): string => `${letter}, event ${event}: ${says}`,
     cursor: (speed: string, limit: string, brake: string, mode: string, level: string, place: string, moment: string):
         string => `At the cursor: speed ${speed}; limit, which is the permitted speed, ${limit}; ${brake}; ${
-            mode}; level ${level}; front at ${place}; moment ${moment}.`,
+            mode}; level ${level}; front ${place}; moment ${moment}.`,
     noMatch: "No further event matches.",
     any: {kind: "all kinds", brake: "all brakes", mode: "all modes"},
 };

@@ -6,7 +6,7 @@ import {Grammar} from "./grammar";
 import {hexOf} from "./hex";
 import {Block, BYTES, Facts, Replay, SECTOR, Slot, Why} from "./layouts";
 import {askedOf, Intervention, interventionsOf, lastOf, livesOf, speedsOf, tripsOf} from "./lives";
-import {Head, Order, Report, Unwritten} from "./messages";
+import {Head, ImageOrder, Order, Report, Unwritten} from "./messages";
 import {groupsBy, Judge} from "./plausibility";
 import {signalsOf} from "./signals";
 import {SAY} from "./texts";
@@ -38,10 +38,12 @@ function pause(): Promise<void> {
     });
 }
 
-/** Works in short pieces, each of so many, with progress, as long as the image is asked for. */
+/** Works in pieces, each of so many, and says what is done, as long as the image is asked for. */
 async function pieces(
     id: number, what: string, all: number, work: (done: number) => boolean, each = 1): Promise<boolean> {
     let begun = Date.now();
+    send({ kind: "progress", id, what, done: 0, all });
+    await pause();
     for (let done = 0; wanted.has(id) && work(done); done++) {
         if (Date.now() - begun < EACH_MS) continue;
         send({ kind: "progress", id, what, done: each * done, all });
@@ -102,9 +104,10 @@ async function readSlots(calls: Calls, id: number, held: Held, facts: Facts, rea
             if (value) slots.push(value);
             if (value?.state === 1) {
                 const head = calls.block(held, value.number).value;
-                if (head)
-                    heads.push(
-                        { number: head.number, firstEvent: head.firstEvent, events: head.events, lives: head.lives });
+                if (head) {
+                    const { number, firstEvent, events, lives, records } = head;
+                    heads.push({ number, firstEvent, events, lives, records });
+                }
             }
             return true;
         }))
@@ -182,11 +185,12 @@ function withSlots(bytes: Uint8Array, slots: number): Uint8Array {
     return copy;
 }
 
-async function read(calls: Calls, id: number, file: Blob, slots: number|null): Promise<void> {
+async function read(calls: Calls, { id, file, slots, first }: ImageOrder): Promise<void> {
     const bytes = new Uint8Array(await file.arrayBuffer());
     const digest = hexOf(new Uint8Array(await crypto.subtle.digest("SHA-256", bytes)));
     if (!wanted.has(id)) return;
-    const one = calls.hold(slots === null ? bytes : withSlots(bytes, slots));
+    const begin = bytes.subarray(0, first ?? bytes.length);
+    const one = calls.hold(slots === null ? begin : withSlots(begin, slots));
     held.set(id, one);
     send({ kind: "bytes", id, bytes: bytes.buffer, digest }, [bytes.buffer]);
     const { status, value } = calls.facts(one);
@@ -216,7 +220,7 @@ async function obey(order: Order): Promise<void> {
     }
     if (!calls) throw new Error("there is no module yet");
     const ready = await calls;
-    if (order.kind === "image") await read(ready, order.id, order.file, order.slots);
+    if (order.kind === "image") await read(ready, order);
     else if (order.kind === "drop") await drop(ready, order.id);
     else {
         const one = order.kind === "once" ? ready.hold(new Uint8Array(order.bytes)) : held.get(order.id);

@@ -2,14 +2,14 @@
 #
 #     etcs_unit::etcs_unit    the static library, which takes memory by malloc (not on a machine without a C library)
 #     etcs_unit::shared       the shared one (likewise)
-#     etcs_unit::static       the static library without malloc, over memory of the maker's own (etcs_memory.h)
+#     etcs_unit::no_malloc    a static library without malloc: it needs memory of the maker's own (etcs_memory.h)
 get_filename_component(etcs_unit_prefix "${CMAKE_CURRENT_LIST_DIR}/../../.." ABSOLUTE)
 set(etcs_unit_VERSION "@VERSION@")
 set(etcs_unit_PROVED @PROVED@) # FALSE: unproved, or nobody knows: for a first try only
 
-foreach(kind etcs_unit static)
-    if(kind STREQUAL "static")
-        set(etcs_unit_file "${etcs_unit_prefix}/lib/libetcs_unit_static.a")
+foreach(kind etcs_unit no_malloc)
+    if(kind STREQUAL "no_malloc")
+        set(etcs_unit_file "${etcs_unit_prefix}/lib/libetcs_unit_no_malloc.a")
     else()
         set(etcs_unit_file "${etcs_unit_prefix}/lib/libetcs_unit.a")
     endif()

@@ -111,14 +111,19 @@ strict=(-std=c99 -Wall -Wextra -Werror -Wconversion -Wsign-conversion -pedantic)
 # over ARCHIVE.. -- COMPILER WORDS..: the driver, and a program that says sizes and places, over a library for 32 bits
 arm() {
     local from=$libraries/$1
-    arm-linux-gnueabihf-gcc "${strict[@]}" -O2 -static -DOWN_MEMORY -I "$made" -I "$from/include" -I "$here" "$here/driver.c" "$here/hosted.c" "$from/lib/libetcs_unit_static.a" \
+    arm-linux-gnueabihf-gcc "${strict[@]}" -O2 -static -DOWN_MEMORY -I "$made" -I "$from/include" -I "$here" "$here/driver.c" "$here/hosted.c" "$from/lib/libetcs_unit_no_malloc.a" \
         -Wl,--gc-sections -o "$made/driver.$1" && arm-linux-gnueabihf-gcc "${strict[@]}" -O2 -static -DOWN_MEMORY -I "$from/include" -I "$top/tests/unit" \
-        "$top/tests/unit/executive.c" "$from/lib/libetcs_unit_static.a" -Wl,--gc-sections -o "$made/executive.$1" && arm-linux-gnueabihf-gcc "${strict[@]}" -static -I "$from/include" "$made/places.c" -o "$made/places.$1"
+        "$top/tests/unit/executive.c" "$from/lib/libetcs_unit_no_malloc.a" -Wl,--gc-sections -o "$made/executive.$1" && arm-linux-gnueabihf-gcc "${strict[@]}" -static -I "$from/include" "$made/places.c" -o "$made/places.$1"
 }
 board() {
     local from=$libraries/thumbv7em-none-eabi
     arm-none-eabi-gcc "${strict[@]}" -std=c11 -O2 -mcpu=cortex-m7 -mthumb -mfloat-abi=soft -ffreestanding -nostdlib -static -Wl,--build-id=none,--gc-sections,-z,noexecstack \
-        -Wl,--no-warn-rwx-segments -I "$made" -I "$from/include" -I "$here" -T "$here/m7.ld" "$here/driver.c" "$here/m7.c" "$from/lib/libetcs_unit_static.a" -lgcc -o "$made/m7.elf"
+        -Wl,--no-warn-rwx-segments -I "$made" -I "$from/include" -I "$here" -T "$here/m7.ld" "$here/driver.c" "$here/m7.c" "$from/lib/libetcs_unit_no_malloc.a" -lgcc -o "$made/m7.elf"
+}
+# least TARGET WORDS..: a program without a C library, which links all of the archive, since nothing is left out of it
+least() {
+    arm-none-eabi-gcc "${strict[@]}" -O2 "${@:2}" -mfloat-abi=soft -ffreestanding -nostdlib -static -I "$libraries/$1/include" "$here/least.c" \
+        "$libraries/$1/lib/libetcs_unit_no_malloc.a" -lgcc -o "$made/least.$1"
 }
 # as_c NAME LINKER COMPILER WORDS..: the same over the C source
 as_c() {
@@ -142,10 +147,13 @@ side_by_side source_powerpc as_c source_powerpc powerpc-linux-gnu-gcc powerpc-li
 side_by_side source_gcc as_c source_gcc gcc gcc
 for target in armv7-none-eabi thumbv7em-none-eabi armv8r-none-eabi; do side_by_side "driver_$target" arm "$target"; done
 side_by_side board board
+side_by_side least_armv7 least armv7-none-eabi -march=armv7-a
+side_by_side least_thumbv7em least thumbv7em-none-eabi -mcpu=cortex-m7 -mthumb
+side_by_side least_armv8r least armv8r-none-eabi -mcpu=cortex-r52
 first=$libraries/x86_64-linux-gnu
 gcc "${strict[@]}" -O2 -I "$made" -I "$first/include" -I "$here" "$here/driver.c" "$here/hosted.c" "$first/lib/libetcs_unit.a" -o "$made/driver.first" || fails "the driver doesn't compile"
 "$made/driver.first" <"$made/script" >"$made/printed.x86_64" || fails "the driver ends with another status than 0"
-for name in source_clang source_powerpc source_gcc driver_{armv7,thumbv7em,armv8r}-none-eabi board; do ended $name; done
+for name in source_clang source_powerpc source_gcc driver_{armv7,thumbv7em,armv8r}-none-eabi board least_{armv7,thumbv7em,armv8r}; do ended $name; done
 [ $status -eq 0 ] || exit 1
 
 # ---- the same script everywhere
@@ -178,7 +186,7 @@ channel() {
     gcc -std=gnu11 -Wall -Wextra -Werror -Wconversion -Wsign-conversion -O2 -I "$first/include" -I "$top/tests/unit" "$top/tests/unit/channels.c" "${@:2}" -o "$made/$1" ||
         fails "channels.c doesn't compile: $1"
 }
-channel channel_llvm "$first/lib/libetcs_unit_static.a"
+channel channel_llvm "$first/lib/libetcs_unit_no_malloc.a"
 channel channel_gcc -DAS_SOURCE "$made"/source_gcc.etcs_{wasm,calls,source}.o -lm
 "$made/channel_llvm" alone "$made/lives" "$made/answers" || fails "a channel has no answers"
 "$made/channel_gcc" along "$made/lives" "$made/answers" || fails "two channels differ"

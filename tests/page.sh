@@ -26,7 +26,7 @@ if [ -z "$page" ]; then
     tools/page "$page" >"$folder/said" 2>&1 && { echo "page: tools/page wrote over a file without --force"; exit 1; }
     grep -q 'already exists; --force overwrites' "$folder/said" || { cat "$folder/said"; exit 1; }
     printf 'a letter\n' >"$folder/letter"
-    tools/page --force "$folder/letter" >/dev/null 2>&1 && { echo "page: tools/page wrote over a letter"; exit 1; }
+    tools/page "$folder/letter" >/dev/null 2>&1 && { echo "page: tools/page wrote over a letter without --force"; exit 1; }
     [ "$(cat "$folder/letter")" = "a letter" ] || { echo "page: the letter is gone"; exit 1; }
 fi
 /usr/bin/python3 -I -B tests/page/check.py "$page" "${@:4}"

@@ -3,7 +3,8 @@
 # rows/ converts its rows to numbers, the program answers all of them in one run, and each module converts the replies back and
 # compares them with the wanted answers. The rows are the hand-written ones (rows/*.row) and those that plain/make_rows.py makes.
 # Fails where an answer differs or is missing, the sources don't compile, a run doesn't end, fewer rows were tried than are listed
-# below, or a question is too long for the program.
+# below, or a question is too long for the program. Then the requests for memory of some rows are refused, each in turn
+# (hostile/refused_calls.py).
 #
 #     tests/rows.sh          with the program etcs that rt ci leaves in crates/, for the rows that ask it
 #     tests/rows.sh ETCS     with another one
@@ -36,15 +37,16 @@ python3 long_questions.py || status=1
 for name in "${modules[@]}"; do
     python3 "$name.py" --ask "$made/cases" || exit 1
 done
-./tried "$made/cases" "$made/answers" || exit 1
+./tried "$made/cases" "$made/answers" "$made/program" || exit 1
 rows test_decode 293
 rows test_parts 2758
 rows test_modes 2613
 rows test_disk 502
 rows test_blocks 741
 rows test_journal 1100
-rows test_onboard 34585
+rows test_onboard 34580
 rows test_kernel 711
 rows test_track 86
 rows test_guard 181
+python3 ../hostile/refused_calls.py "$made/program" || status=1
 exit $status

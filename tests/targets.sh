@@ -46,15 +46,22 @@ board() {
 # ---- the same script everywhere
 
 "$python" "$here/scripts.py" members >"$made/members.h" || fails "there are no members"
-for one in "gcc here $here_prefix/lib/libetcs_unit.a" "gcc here_static $here_prefix/lib/libetcs_unit_static.a -DOWN_MEMORY" \
-    "$cross aarch64 $arm/lib/libetcs_unit.a -static" "$cross aarch64_static $arm/lib/libetcs_unit_static.a -static -DOWN_MEMORY"; do
+for one in "gcc here $here_prefix/lib/libetcs_unit.a" "gcc here_static $here_prefix/lib/libetcs_unit_no_malloc.a -DOWN_MEMORY" \
+    "$cross aarch64 $arm/lib/libetcs_unit.a -static" "$cross aarch64_static $arm/lib/libetcs_unit_no_malloc.a -static -DOWN_MEMORY"; do
     read -r compiler name library words <<<"$one"
     # shellcheck disable=SC2086
     "$compiler" -std=c99 -O2 "${strict[@]}" $words -I "$made" -I "$here_prefix/include" -I "$here" "$here/driver.c" "$here/hosted.c" "$library" -o "$made/$name" ||
         fails "the driver doesn't compile: $name"
 done
-"$cross" -std=c11 -O2 "${strict[@]}" "${bare_words[@]}" -I "$made" -I "$here" "$here/driver.c" "$here/bare.c" "$bare/lib/libetcs_unit_static.a" -o "$made/board.elf" ||
+"$cross" -std=c11 -O2 "${strict[@]}" "${bare_words[@]}" -I "$made" -I "$here" "$here/driver.c" "$here/bare.c" "$bare/lib/libetcs_unit_no_malloc.a" -o "$made/board.elf" ||
     fails "the driver doesn't compile for the board"
+# (without a C library, and with all of the archive; bytes.c has memcpy and the like, which no archive for a machine with a C library has)
+for one in "gcc $here_prefix $top/platform/bytes.c" "$cross $arm $top/platform/bytes.c" "$cross $bare"; do
+    read -r compiler prefix more <<<"$one"
+    # shellcheck disable=SC2086
+    "$compiler" -std=c99 -O2 "${strict[@]}" -ffreestanding -fno-builtin -nostdlib -static -I "$prefix/include" -I "$top/platform" "$here/least.c" $more \
+        "$prefix/lib/libetcs_unit_no_malloc.a" -o "$made/least" || fails "a program without a C library doesn't link: $prefix"
+done
 "$python" "$here/scripts.py" script "$lives" "$calls" "$telegrams" >"$made/script" || fails "there is no script"
 "$made/here" <"$made/script" >"$made/printed.x86_64" || fails "the driver ends with another status than 0"
 "$made/here_static" <"$made/script" >"$made/printed.x86_64_own_memory" || fails "the driver over a buffer ends with another status than 0"
@@ -86,20 +93,20 @@ done
 # ---- the examples; the board's time is counted by its instructions, of which there are 62.5 million a second, and no sleep is waited for
 
 clock=(-icount "shift=4,sleep=off")
-"$cross" -std=c11 -O2 "${strict[@]}" "${bare_words[@]}" "$top/examples/bare_metal/main.c" "$bare/lib/libetcs_unit_static.a" -o "$made/example.elf" || fails "the example for a bare board doesn't compile"
+"$cross" -std=c11 -O2 "${strict[@]}" "${bare_words[@]}" "$top/examples/bare_metal/main.c" "$bare/lib/libetcs_unit_no_malloc.a" -o "$made/example.elf" || fails "the example for a bare board doesn't compile"
 board "$made/example.elf" >"$made/said"
 "$python" "$here/examples.py" board "$made/said" || { cat "$made/said"; fails "the example on the board"; }
 # (an hour of cycles, in which power is lost more than 100 times)
-"$cross" -std=c11 -O2 "${strict[@]}" "${bare_words[@]}" -DCYCLES=36000 -DLIFE_CYCLES=675 "$top/examples/bare_metal/main.c" "$bare/lib/libetcs_unit_static.a" -o "$made/hour.elf" &&
+"$cross" -std=c11 -O2 "${strict[@]}" "${bare_words[@]}" -DCYCLES=36000 -DLIFE_CYCLES=675 "$top/examples/bare_metal/main.c" "$bare/lib/libetcs_unit_no_malloc.a" -o "$made/hour.elf" &&
     board "$made/hour.elf" >"$made/said" && tail -n 2 "$made/said" && "$python" "$here/examples.py" hour "$made/said" || { tail -n 3 "$made/said"; fails "an hour on the board"; }
 for fault in hangs crashes overflows; do
-    "$cross" -std=c11 -O2 "${strict[@]}" "${bare_words[@]}" "-D${fault^^}" -include "$here/board_faults.h" "$top/examples/bare_metal/main.c" "$bare/lib/libetcs_unit_static.a" \
+    "$cross" -std=c11 -O2 "${strict[@]}" "${bare_words[@]}" "-D${fault^^}" -include "$here/board_faults.h" "$top/examples/bare_metal/main.c" "$bare/lib/libetcs_unit_no_malloc.a" \
         -o "$made/example.elf" || fails "the example for a bare board doesn't compile with a fault"
     board "$made/example.elf" >"$made/said"
     "$python" "$here/examples.py" "$fault" "$made/said" || { cat "$made/said"; fails "the example on the board $fault, and doesn't brake"; }
 done
-gcc -std=c99 -O2 "${strict[@]}" -I "$here_prefix/include" "$top/examples/cortex_a/cyclic.c" "$here_prefix/lib/libetcs_unit_static.a" -pthread -o "$made/cyclic" &&
-    "$cross" -std=c99 -O2 "${strict[@]}" -static -I "$arm/include" "$top/examples/cortex_a/cyclic.c" "$arm/lib/libetcs_unit_static.a" -pthread -o "$made/cyclic.aarch64" ||
+gcc -std=c99 -O2 "${strict[@]}" -I "$here_prefix/include" "$top/examples/cortex_a/cyclic.c" "$here_prefix/lib/libetcs_unit_no_malloc.a" -pthread -o "$made/cyclic" &&
+    "$cross" -std=c99 -O2 "${strict[@]}" -static -I "$arm/include" "$top/examples/cortex_a/cyclic.c" "$arm/lib/libetcs_unit_no_malloc.a" -pthread -o "$made/cyclic.aarch64" ||
     fails "the cyclic task doesn't compile"
 # (on a machine that has other work a cycle may be late by any time)
 "$made/cyclic" "$made/image" 20 5 600000 >"$made/said.here" 2>/dev/null || fails "the cyclic task"
@@ -119,7 +126,7 @@ cat >"$made/project/CMakeLists.txt" <<'CMAKE'
 cmake_minimum_required(VERSION 3.16)
 project(own C)
 find_package(etcs_unit 0.1 REQUIRED)
-foreach(kind etcs_unit static shared)
+foreach(kind etcs_unit no_malloc shared)
     add_executable(why_${kind} why.c)
     target_link_libraries(why_${kind} PRIVATE etcs_unit::${kind})
 endforeach()
@@ -138,7 +145,7 @@ done
 sed -i 's/etcs_unit 0.1/etcs_unit 9.0/' "$made/project/CMakeLists.txt"
 rm -rf "$made/build"
 ! cmake -S "$made/project" -B "$made/build" -DCMAKE_PREFIX_PATH="$here_prefix" >/dev/null 2>&1 || fails "find_package takes a version that isn't there"
-for name in etcs_unit etcs_unit_static; do
+for name in etcs_unit etcs_unit_no_malloc; do
     # shellcheck disable=SC2046
     gcc "$made/project/why.c" $(PKG_CONFIG_PATH=$here_prefix/lib/pkgconfig pkg-config --cflags --libs "$name") -o "$made/by_$name" && packages=$((packages + 1))
 done

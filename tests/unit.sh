@@ -2,7 +2,7 @@
 # Test the unit from C, C++, Python, Rust and Ada, all built from the folder that tools/library makes: each header by itself, the names that
 # the library exports, sizes and offsets, wrong calls, files, archives of blocks and marks next to the journal, starts of slots, two units at once, the
 # executive, also over what FreeRTOS and Zephyr declare, inputs of the odometer, media that lose power, the examples, images compared with `etcs journal`, random lives compared with `etcs run`, instructions
-# compared with kept counts and bounds, memory that is refused, and the commands of the pages for makers. Needs gcc, g++, valgrind, cargo, gnat and Debian's Python; clang
+# compared with kept counts and bounds, the stack of each call compared with the headers, a disk that is full, memory that is refused, and the commands of the pages for makers. Needs gcc, g++, valgrind, cargo, gnat and Debian's Python; clang
 # is used where it is installed.
 #
 #     tests/unit.sh [PREFIX [LIVES]]    test the library below PREFIX (default: build and install it first) with LIVES lives (default: 400);
@@ -83,7 +83,7 @@ nm -D --defined-only "$shared" | sed 's/.* //' | LC_ALL=C sort >"$made/shown"
 nm --defined-only --extern-only "$archive" | sed -n 's/^[0-9a-f]* . //p' | LC_ALL=C sort >"$made/in_archive"
 diff "$made/names" "$made/shown" || fails "the shared library shows other names than the headers declare"
 diff "$made/names" "$made/in_archive" || fails "the static library shows other names than the headers declare"
-static=$prefix/lib/libetcs_unit_static.a
+static=$prefix/lib/libetcs_unit_no_malloc.a
 echo '#include "etcs_memory.h"' >>"$made/all.c"
 gcc -std=c99 -I "$include" -aux-info "$made/declared" -c "$made/all.c" -o "$made/all.o" || fails "the headers don't compile"
 named >"$made/names"
@@ -155,8 +155,8 @@ for name in misuse two reading starts; do build "$name.shared" "$top/tests/unit/
 ETCS_UNIT_LIB=$prefix/lib RUSTFLAGS='-D warnings' cargo build --quiet --offline --locked --manifest-path "$top/examples/embedding/rust/Cargo.toml" --target-dir "$made/rust" ||
     fails "examples/embedding/rust doesn't compile"
 ETCS_UNIT_LIB=$prefix/lib RUSTFLAGS='-D warnings' cargo test --quiet --offline --locked --manifest-path "$top/bindings/rust/etcs-unit/Cargo.toml" --target-dir "$made/rust" --test refusals --test images \
-    >"$made/said" 2>&1 && grep -q '^test result: ok. 4 passed' "$made/said" && grep -q '^test result: ok. 3 passed' "$made/said" ||
-    { cat "$made/said"; fails "the tests of bindings/rust/etcs-unit: failures, or other than 4 and 3"; }
+    >"$made/said" 2>&1 && grep -q '^test result: ok. 5 passed' "$made/said" && grep -q '^test result: ok. 3 passed' "$made/said" ||
+    { cat "$made/said"; fails "the tests of bindings/rust/etcs-unit: failures, or other than 5 and 3"; }
 mkdir "$made/ada"
 "$top/tools/bindings" || fails "tools/bindings fails"
 for one in "$top"/examples/embedding/ada/{brake,read_image}.adb "$top"/tests/unit/{limits,image_limits}.adb; do
@@ -186,7 +186,7 @@ done
 runs_well "$made/media.gcc"
 for program in "$made"/media.*; do runs_well "$program" 37; done
 runs_well "$made/limits.ada" 1
-grep -q '^Ada: 18 tried, 0 of them wrong$' "$made/said" || { cat "$made/said"; fails "of what Ada refuses there are 18 to be tried"; }
+grep -q '^Ada: 23 tried, 0 of them wrong$' "$made/said" || { cat "$made/said"; fails "of what Ada refuses there are 23 to be tried"; }
 runs_well "$made/image_limits.ada"
 grep -q '^Ada, images: 21 tried, 0 of them wrong$' "$made/said" || { cat "$made/said"; fails "of images in Ada there are 21 to be tried"; }
 for program in "$made"/flash.*; do runs_well "$program"; done
@@ -215,6 +215,25 @@ done
 for image in "$made"/image.*; do cmp "$image" "$made/image.brake.gcc" || fails "the journals of the examples differ"; done
 counted "trains that brake" $trains 6
 
+# ---- a program that is started again goes on with its journal: each example adds a life, and that of the page changes nothing
+
+twice=0
+build display.gcc "$top/examples/embedding/display.c" gcc -x c -std=c99 -O2
+sed -n '/^```c$/,/^```$/{/^```/d;p}' "$top/docs/howto/c-static-memory.md" >"$made/buffer.c"
+link=("$static")
+build buffer.gcc "$made/buffer.c" gcc -x c -std=c99 -O2
+for program in brake.gcc brake.cpp display.gcc use.py buffer.gcc; do
+    cp "$made/image.brake.gcc" "$made/twice"
+    case $program in
+        use.py) PYTHONPATH=$top/python "$python" "$top/examples/embedding/use.py" "$made/twice" ;;
+        *) "$made/$program" "$made/twice" ;;
+    esac >"$made/said" || { cat "$made/said"; fails "$program on a journal ends with another status than 0"; }
+    if [ $program = buffer.gcc ]; then cmp "$made/image.brake.gcc" "$made/twice"; else
+        PYTHONPATH=$top/python "$python" -c 'import sys; from gaknifur.unit import journal; sys.exit([*journal(sys.argv[1])][-1].life != 2)' "$made/twice"
+    fi && twice=$((twice + 1)) || fails "$program loses its journal"
+done
+counted "programs that go on with their journal" $twice 5
+
 # ---- the guard of the examples: by packet 137 it stops in Staff Responsible, and in no other mode (SUBSET-026, 4.6.3)
 
 guards=0
@@ -230,6 +249,10 @@ counted "guards of the examples" $guards 4
 "$python" "$top/tests/unit/self_test.py" "$("$made/executive.gcc" self-test)" || status=1
 "$python" "$top/tests/unit/odometer.py" "$made/odometer.gcc" || status=1
 "$made/odometer.checked" >"$made/said" || { cat "$made/said"; fails "odometer.c with sanitizers"; }
+
+# ---- a disk that another file fills
+
+"$python" "$top/tests/unit/full_disk.py" "$made/life.gcc" || status=1
 
 # ---- images: what is listed by the calls is what the program lists
 
@@ -272,6 +295,17 @@ gcc -std=gnu11 -O2 -Wl,-z,now,--wrap=malloc,--wrap=realloc,--wrap=free -I "$incl
     -o "$made/worst" || fails "bench/worst.c doesn't compile"
 "$python" "$top/tests/unit/counts.py" "$made/worst" || status=1
 
+# ---- the stack of each call, compared with the numbers of the headers
+
+mkdir "$made/outer"
+for header in etcs_file etcs_executive etcs_nor; do
+    sed 's/^static inline //' "$include/$header.h" >"$made/outer/$header.h"
+    echo "#include \"$header.h\"" >>"$made/outer.c"
+done
+echo 'int main(void) { return 0; }' >>"$made/outer.c"
+gcc -std=c99 -O2 -I "$made/outer" -I "$include" "$made/outer.c" "$archive" -o "$made/outer.gcc" || fails "the calls of the headers as functions don't compile"
+"$python" "$top/tests/unit/stacks.py" "$made/worst" "$made/outer.gcc" || status=1
+
 # ---- memory that is refused
 
 others=$(nm -u "$archive" | grep -Ew 'calloc|aligned_alloc|posix_memalign|memalign|mmap|sbrk' | tr -s ' \n' ' ')
@@ -313,8 +347,8 @@ for program in "$made"/refused.*; do "$python" "$top/tests/unit/refused_lives.py
 
 # ---- the package in Python, and the pages
 
-(cd "$top/python" && "$python" -m unittest -q tests.test_unit tests.test_guard) >"$made/said" 2>&1 && grep -q '^Ran 31 tests' "$made/said" && ! grep -q skipped "$made/said" ||
-    { cat "$made/said"; fails "python/tests/test_{unit,guard}.py: failures, or other than 31 tests"; }
+(cd "$top/python" && "$python" -m unittest -q tests.test_unit tests.test_guard) >"$made/said" 2>&1 && grep -q '^Ran 32 tests' "$made/said" && ! grep -q skipped "$made/said" ||
+    { cat "$made/said"; fails "python/tests/test_{unit,guard}.py: failures, or other than 32 tests"; }
 "$python" "$top/tests/unit/integration.py" || status=1
 ETCS_LAB=$lab ETCS_UNIT_ARCHIVE=$raw ETCS_C_ARCHIVE=$raw_telegrams "$python" "$top/tests/documents.py" start/c howto/c-loop howto/c-flash \
     howto/c-static-memory howto/c-display howto/c-guard howto/c-installed-tracks howto/c-journal howto/cpp howto/python howto/rust || status=1

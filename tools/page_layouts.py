@@ -14,7 +14,8 @@ from gaknifur.units import _header  # noqa: E402
 
 FILE = TOP / "page/layouts.ts"
 # Each struct: its reader, its interface, its name in C, and its members. `name=c_name` has another name in C, `name?` is true or false,
-# `name|flag` is null where the flag is 0.
+# `name|flag` is null where the flag is 0, `name!` is a bigint
+# where a number doesn't have it exactly.
 STRUCTS = """
 output Output etcs_unit_output: event limit mode level brake indications
 request Request etcs_unit_request_info: sector sectors isWrite=kind isRead=kind
@@ -24,7 +25,7 @@ slot Slot etcs_slot: number faultAt state isSound? hasFault? faultRecord
 train TrainData etcs_train_data: length maximum deceleration reaction category
 kept Kept etcs_kept: distance train|has_train runningNumber|has_running_number country group identity levelStatus level positionStatus tripOutstanding? national countries
 block Block etcs_block: number firstEvent events lives format records kept
-record JournalRecord etcs_record: event block moment front uncertainty limit life format kind mode level brake indications hasPlace? payload
+record JournalRecord etcs_record: event block moment front|has_place uncertainty!|has_place limit|has_place life format kind mode level brake indications payload
 replay Replay etcs_replay: first last block event life verdict field journal kernel journalKept kernelKept
 demand Demand etcs_demand: demanded finding
 why Why etcs_why: event since tripEvent backward allowedBackward causeAt=limit_cause_cm|has_place restriction|has_restriction limit speed causeSpeed=limit_cause_m_per_h holds? brake tripCause limitCause
@@ -36,13 +37,17 @@ HEAD = """// The structs of include/etcs_unit.h, etcs_image.h and etcs_guard.h, 
 READER = """
 /**
  * Reads the structs at a place of the memory. Numbers of 64 bits are below 2^53 in every answer of the calls, but for
- * an uncertainty and a distance of a made image, which are rounded then.
+ * the uncertainty of a made image, which `exact` reads, and the distance of one, which is rounded then.
  */
 export class Reader {
     constructor(private readonly view: DataView) {}
 
     u64(at: number): number { return Number(this.view.getBigUint64(at, true)); }
     i64(at: number): number { return Number(this.view.getBigInt64(at, true)); }
+    exact(at: number): number|bigint {
+        const number = this.view.getBigUint64(at, true);
+        return number > Number.MAX_SAFE_INTEGER ? number : Number(number);
+    }
     u32(at: number): number { return this.view.getUint32(at, true); }
     u16(at: number): number { return this.view.getUint16(at, true); }
     u8(at: number): number { return this.view.getUint8(at); }
@@ -90,7 +95,7 @@ def special(struct, name):
 def member(struct, text):
     """A member's name, its type, and what reads it."""
     text, _, flag = text.partition("|")
-    name, _, of_c = text.rstrip("?").partition("=")
+    name, _, of_c = text.rstrip("?!").partition("=")
     if found := special(struct, name):
         return name, *found
     snake = of_c or re.sub("([A-Z])", lambda letter: f"_{letter[0].lower()}", name)
@@ -99,6 +104,8 @@ def member(struct, text):
     kind, value = read(kinds[of_c], f"at + {getattr(struct, of_c).offset}")
     if name in ("isWrite", "isRead"):
         kind, value = "boolean", f"{value} === {_header.RequestKind[name[2:].upper()]}"
+    elif text.endswith("!"):
+        kind, value = "number|bigint", value.replace("this.u64(", "this.exact(")
     elif text.endswith("?"):
         kind, value = ("boolean[]", f"{value}.map(one => one !== 0)") if "[]" in kind else ("boolean", f"{value} !== 0")
     if flag:

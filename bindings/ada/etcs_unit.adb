@@ -57,6 +57,21 @@ package body Etcs_Unit is
    end Carry_Out;
 
    procedure Format (On : in out Medium'Class; Slots : Slot_Count) is
+      First  : Sector;
+      Facts  : aliased Etcs_C.Image_Struct;
+      Answer : Etcs_C.Unit_Status;
+   begin
+      On.Read (0, First);
+      Answer := Status (Etcs_C.Image_Facts (First'Address, First'Length, Etcs_C.Unit_Abi, Facts'Address));
+      if Answer = Etcs_C.Ok then
+         raise Has_Journal;
+      elsif Answer /= Etcs_C.Image_Not_Formatted then
+         raise Refused with Answer'Image;
+      end if;
+      Wipe (On, Slots);
+   end Format;
+
+   procedure Wipe (On : in out Medium'Class; Slots : Slot_Count) is
       Request : aliased Etcs_C.Unit_Request_Info_Struct;
       Content : Sector;
       Answer  : Unsigned_32;
@@ -67,7 +82,7 @@ package body Etcs_Unit is
          Check (Answer);
          Carry_Out (On, Request, Content);
       end loop;
-   end Format;
+   end Wipe;
 
    --  Carries out a request of the unit: hands in a sector that is to be read, or says that it is done.
    procedure Serve (To : in out Unit; Request : Etcs_C.Unit_Request_Info_Struct; Content : Bytes) is

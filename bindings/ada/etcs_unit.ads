@@ -17,6 +17,9 @@ package Etcs_Unit is
    Refused : exception;
    --  The library answered something else than OK; the message is the name of that status.
 
+   Has_Journal : exception;
+   --  The medium has a journal, and a format left it as it is.
+
    subtype Mode is Etcs_C.Mode;
    subtype Level is Etcs_C.Level;
    subtype Brake is Etcs_C.Brake;
@@ -40,7 +43,9 @@ package Etcs_Unit is
       Maximum_M_Per_H        : Speed_M_Per_H range 1 .. 600_000;
       Deceleration_Cm_Per_S2 : Positive range 1 .. 300;
       Reaction_Ms            : Natural range 0 .. 10_000;
+      --  (0, brakes that act at once, is the least safe)
       Category               : Natural range 0 .. 15;
+      --  (0 is a category; a train of none has Etcs_C.Category_None)
    end record;
 
    type Output is record
@@ -67,7 +72,12 @@ package Etcs_Unit is
 
    procedure Format (On : in out Medium'Class; Slots : Slot_Count) with
      Pre => Sectors (On) = 1 + 6 * Sector_Number (Slots);
-   --  Makes an empty journal.
+   --  Makes an empty journal. Where the first sector is that of a journal it raises Has_Journal, and nothing was changed: so it may be
+   --  called before each power-up.
+
+   procedure Wipe (On : in out Medium'Class; Slots : Slot_Count) with
+     Pre => Sectors (On) = 1 + 6 * Sector_Number (Slots);
+   --  The same, whatever the medium holds: all events of a journal there are lost. Never call it at a power-up.
 
    type Unit (On : not null access Medium'Class) is limited private;
    --  It holds 16 sectors of its medium, and is closed where its scope ends.

@@ -8,6 +8,7 @@
  * train where it is. */
 #include "board.h"
 #include "etcs_executive.h"
+#include "etcs_image.h"
 #include "etcs_memory.h"
 
 /* How many cycles all lives have together, and how many there are until power is lost, at most. */
@@ -88,9 +89,14 @@ static int carry_out(void *unused, const etcs_unit_request_info *request, const 
     return 1;
 }
 
-static uint32_t format(void) {
+/* Makes the medium an empty journal where it has none: a format of one would lose its events. */
+static uint32_t make_journal(void) {
     etcs_unit_request_info request;
+    etcs_image facts;
     uint32_t index = 0, status;
+    if (etcs_image_facts(medium[0], ETCS_UNIT_SECTOR, &facts) == ETCS_UNIT_OK) {
+        return ETCS_UNIT_OK;
+    }
     while ((status = etcs_unit_format_request(SLOTS, index, &request, executive.bytes, sizeof executive.bytes)) == ETCS_UNIT_OK) {
         if (carry_out(NULL, &request, executive.bytes) == 0) {
             return ETCS_UNIT_FAILED;
@@ -116,7 +122,8 @@ static int64_t moved(void) {
 static uint32_t make_ready(etcs_unit *unit) {
     static const uint8_t authority[] = {0x90, 0x00, 0x7F, 0x80, 0x20, 0x01, 0x43, 0x20, 0x24, 0xA8, 0x00, 0x7F, 0xE0, 0x07, 0xD0, 0x02,
                                         0xB0, 0x0D, 0x90, 0x00, 0x10, 0x00, 0x0D, 0xC0, 0x3A, 0x40, 0x00, 0x20, 0x80, 0x1F, 0xE0};
-    static const etcs_train_data data = {20000, 160000, 70, 0, 15}; /* 200 m, 160 km/h, 0.7 m/s^2, category 15 */
+    /* 200 m, 160 km/h, 0.7 m/s^2, brakes that act at once (no real ones do: docs/explain/integration.md, 7), and no category */
+    static const etcs_train_data data = {20000, 160000, 70, 0, ETCS_CATEGORY_NONE};
     uint32_t status = etcs_unit_telegram(unit, authority, sizeof authority);
     if (status == ETCS_UNIT_OK) {
         status = etcs_unit_identity(unit, (const uint8_t *)"IC 704", 6);
@@ -192,9 +199,9 @@ static uint32_t live(void) {
     const etcs_equipment equipment = {NULL, NULL, SECTORS, CYCLE_MS * 1000u, LATE_MS * 1000u, stack_guard, (size_t)(stack_end - stack_guard), read_sector, carry_out,
                                       now_us, wait_until_us, take_inputs, obey, feed, NULL};
     uint32_t fault = etcs_memory_use(memory, sizeof memory);
-    if ((fault == ETCS_UNIT_OK) && (world->lives == 0u)) {
-        world->bytes_left = UINT64_MAX;
-        fault = format();
+    world->bytes_left = UINT64_MAX;
+    if (fault == ETCS_UNIT_OK) {
+        fault = make_journal();
     }
     world->lives++;
     choose_loss();

@@ -1,6 +1,6 @@
 /* The executive in a cyclic task on Linux: on a Cortex-A, or any other machine with POSIX threads.
  *
- *     cyclic IMAGE [CYCLES [MILLISECONDS [LATE]]]    a journal that etcs_file_format made; where there is no such file it is made
+ *     cyclic IMAGE [CYCLES [MILLISECONDS [LATE]]]    a journal, which is made where there is none
  *
  * One task begins, and hands the executive to the cyclic one by starting it. That one runs every 100 ms by the system's clock.
  * Memory is a buffer of the program's own and is locked, so no cycle waits for a page. A cycle that ends LATE milliseconds after
@@ -93,15 +93,10 @@ static void *cyclic(void *unused) {
     return NULL;
 }
 
-/* Opens the journal, or makes it. */
+/* Makes the journal where there is none, and opens it. */
 static uint32_t open_file(etcs_file *file, const char *path, uint64_t *sectors) {
-    uint32_t answer = etcs_file_open_medium(file, path, sectors);
-    if (answer == ETCS_FILE_CANT_OPEN && file->error == ENOENT) {
-        answer = etcs_file_format(file, path, SLOTS);
-        if (answer == ETCS_FILE_OK)
-            answer = etcs_file_open_medium(file, path, sectors);
-    }
-    return answer;
+    const uint32_t answer = etcs_file_format(file, path, SLOTS);
+    return answer == ETCS_FILE_OK || answer == ETCS_FILE_NOT_EMPTY ? etcs_file_open_medium(file, path, sectors) : answer;
 }
 
 static void print_build(void) {

@@ -1,6 +1,6 @@
 /* The unit over a file in a cyclic executive, and a train that runs towards the end of its movement authority until it is braked.
  *
- *     brake IMAGE    a journal that `etcs format` or etcs_file_format made; where there is no such file it is made
+ *     brake IMAGE    a journal, which is made where there is none
  *
  * It prints each command that differs from the one before. */
 #include "etcs_file.h"
@@ -63,8 +63,8 @@ static uint32_t make_ready(etcs_unit *unit) {
     static const uint8_t identity[] = "IC 704";
     static const uint8_t authority[] = {0x90, 0x00, 0x7F, 0x80, 0x20, 0x01, 0x43, 0x20, 0x24, 0xA8, 0x00, 0x7F, 0xE0, 0x07, 0xD0, 0x02,
                                         0xB0, 0x0D, 0x90, 0x00, 0x10, 0x00, 0x0D, 0xC0, 0x3A, 0x40, 0x00, 0x20, 0x80, 0x1F, 0xE0};
-    /* 200 m, 160 km/h, 0.7 m/s^2, no reaction time, category 15 */
-    static const etcs_train_data data = {20000, 160000, 70, 0, 15};
+    /* 200 m, 160 km/h, 0.7 m/s^2, brakes that act at once (no real ones do: docs/explain/integration.md, 7), and no category */
+    static const etcs_train_data data = {20000, 160000, 70, 0, ETCS_CATEGORY_NONE};
     uint32_t status = etcs_unit_telegram(unit, authority, sizeof authority);
     if (status == ETCS_UNIT_OK)
         status = etcs_unit_identity(unit, identity, sizeof identity - 1);
@@ -94,12 +94,9 @@ int main(int count, char **words) {
                                 etcs_file_carry_out_request, now_us, wait_until_us, take_inputs, obey, feed, NULL};
     if (count != 2)
         return 2;
-    uint32_t answer = etcs_file_open_medium(&file, words[1], &equipment.sectors);
-    if (answer == ETCS_FILE_CANT_OPEN && file.error == ENOENT) {
-        answer = etcs_file_format(&file, words[1], SLOTS);
-        if (answer == ETCS_FILE_OK)
-            answer = etcs_file_open_medium(&file, words[1], &equipment.sectors);
-    }
+    uint32_t answer = etcs_file_format(&file, words[1], SLOTS); /* where there is no journal yet */
+    if (answer == ETCS_FILE_OK || answer == ETCS_FILE_NOT_EMPTY)
+        answer = etcs_file_open_medium(&file, words[1], &equipment.sectors);
     if (answer != ETCS_FILE_OK) {
         printf("emergency brake: opening answered %s, system %d\n", etcs_file_answer_name(answer), file.error);
         return 1;

@@ -45,8 +45,8 @@ public:
         equipment.take_inputs = [](void *on, etcs_unit *unit) { return static_cast<Equipment *>(on)->take_inputs(*unit); };
         equipment.obey = [](void *on, const etcs_unit_output *command) { static_cast<Equipment *>(on)->obey(*command); };
         equipment.feed = [](void *on) { static_cast<Equipment *>(on)->feed(); };
-        std::uint32_t answer = etcs_file_open_medium(&file, path.c_str(), &equipment.sectors);
-        if (answer == ETCS_FILE_CANT_OPEN && file.error == ENOENT && etcs_file_format(&file, path.c_str(), slots) == ETCS_FILE_OK)
+        std::uint32_t answer = etcs_file_format(&file, path.c_str(), slots); // where there is no journal yet
+        if (answer == ETCS_FILE_OK || answer == ETCS_FILE_NOT_EMPTY)
             answer = etcs_file_open_medium(&file, path.c_str(), &equipment.sectors);
         if (answer != ETCS_FILE_OK)
             throw std::runtime_error(path + ": " + etcs_file_answer_name(answer) + ", system " + std::to_string(file.error));
@@ -136,7 +136,8 @@ private:
         static constexpr std::uint8_t authority[] = {0x90, 0x00, 0x7F, 0x80, 0x20, 0x01, 0x43, 0x20, 0x24, 0xA8, 0x00, 0x7F, 0xE0, 0x07, 0xD0, 0x02,
                                                      0xB0, 0x0D, 0x90, 0x00, 0x10, 0x00, 0x0D, 0xC0, 0x3A, 0x40, 0x00, 0x20, 0x80, 0x1F, 0xE0};
         static constexpr std::string_view identity = "IC 704";
-        static constexpr etcs_train_data data{20000, 160000, 70, 0, 15};
+        // (the reaction time is 0 only here: no real brakes act at once)
+        static constexpr etcs_train_data data{20000, 160000, 70, 0, ETCS_CATEGORY_NONE};
         for (const std::uint32_t status : {etcs_unit_telegram(&unit, authority, sizeof authority),
                                            etcs_unit_identity(&unit, reinterpret_cast<const std::uint8_t *>(identity.data()), identity.size()),
                                            etcs_unit_action(&unit, ETCS_CHOOSE_LEVEL_1), etcs_unit_train_data(&unit, &data),

@@ -27,15 +27,19 @@ static uint32_t cycle(etcs_file *file, etcs_unit *unit) {
 }
 
 int main(int count, char **words) {
-    /* 1,000 m of level track; and a train of 200 m that brakes with 0.7 m/s^2 */
+    /* 1,000 m of level track; and a train of 200 m that brakes with 0.7 m/s^2, at once (no real one does), of no category */
     static const uint8_t authority[] = {0x90, 0x00, 0x7F, 0x80, 0x20, 0x01, 0x43, 0x20, 0x24, 0xA8, 0x00, 0x7F, 0xE0, 0x07, 0xD0, 0x02,
                                         0xB0, 0x0D, 0x90, 0x00, 0x10, 0x00, 0x0D, 0xC0, 0x3A, 0x40, 0x00, 0x20, 0x80, 0x1F, 0xE0};
-    static const etcs_train_data data = {20000, 160000, 70, 0, 15};
+    static const etcs_train_data data = {20000, 160000, 70, 0, ETCS_CATEGORY_NONE};
     static const uint32_t speeds[] = {100000, 100000, 100000, 100000, 100000, 80000};
     etcs_unit unit = {0};
     etcs_file file = {0};
-    if (count != 2 || etcs_file_format(&file, words[1], 16) != ETCS_FILE_OK
-        || etcs_file_open(&file, words[1], &unit, ETCS_COLD_UNKNOWN) != ETCS_FILE_OK)
+    if (count != 2)
+        return 2;
+    uint32_t answer = etcs_file_format(&file, words[1], 16); /* where there is no journal yet */
+    if (answer == ETCS_FILE_OK || answer == ETCS_FILE_NOT_EMPTY)
+        answer = etcs_file_open(&file, words[1], &unit, ETCS_COLD_UNKNOWN);
+    if (answer != ETCS_FILE_OK)
         return 2;
     uint32_t status = cycle(&file, &unit); /* of the power-up */
     if (etcs_unit_telegram(&unit, authority, sizeof authority) != ETCS_UNIT_OK || etcs_unit_identity(&unit, (const uint8_t *)"IC 704", 6) != ETCS_UNIT_OK

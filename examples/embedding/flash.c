@@ -9,7 +9,7 @@
 #include <stdio.h>
 #include <string.h>
 
-#include "etcs_unit.h"
+#include "etcs_image.h"
 
 enum { SLOTS = 32, SECTORS = 1 + 6 * SLOTS, BATCH = 3, MOST_REQUESTS = 32 };
 
@@ -56,15 +56,19 @@ static int flash_does(const etcs_unit_request_info *request, const uint8_t *byte
     return request->kind == ETCS_REQUEST_SYNC ? flash_sync() : flash_write(request->sector, bytes, request->sectors);
 }
 
-/* Makes the flash an empty journal. */
-static uint32_t format(void) {
+/* Makes the flash an empty journal where it has none: a format of one would lose its events. 0 where the flash fails. */
+static int make_journal(void) {
     etcs_unit_request_info request;
+    etcs_image facts;
     uint8_t bytes[ETCS_UNIT_SECTOR];
     uint32_t status, index = 0;
-    memset(cells, 0, sizeof cells);
+    if (!flash_read(0, bytes))
+        return 0;
+    if (etcs_image_facts(bytes, sizeof bytes, &facts) == ETCS_UNIT_OK)
+        return 1;
     while ((status = etcs_unit_format_request(SLOTS, index, &request, bytes, sizeof bytes)) == ETCS_UNIT_OK && flash_does(&request, bytes))
         index++;
-    return status;
+    return status == ETCS_UNIT_NO_SUCH_REQUEST;
 }
 
 /* Carries out one request, and hands in what was read, or says that it is done. Where the flash fails it says so to the unit. */
@@ -149,12 +153,13 @@ static int loses_power(void) {
     for (int requests = 0; requests <= MOST_REQUESTS; requests++) {
         uint32_t released = 0;
         uint64_t event = 0;
-        if (format() != ETCS_UNIT_NO_SUCH_REQUEST)
+        memset(cells, 0xFF, sizeof cells); /* a new flash */
+        if (!make_journal())
             return 0;
         const uint32_t answer = first_life(requests, &released);
         if (answer != ETCS_UNIT_OK && answer != ETCS_UNIT_FAILED)
             return 0;
-        if (second_life(&event) != ETCS_UNIT_OK)
+        if (!make_journal() || second_life(&event) != ETCS_UNIT_OK) /* (which leaves the journal as it is) */
             return 0;
         /* events 0, 1 to BATCH, the second power-up, and then this one; or without the batch */
         const int is_there = event == BATCH + 2;

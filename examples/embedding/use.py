@@ -7,7 +7,7 @@ import sys
 from dataclasses import replace
 from pathlib import Path
 
-from gaknifur.unit import Action, Brake, FileMedium, Mode, Output, TrainData, Unit, journal
+from gaknifur.unit import CATEGORY_NONE, Action, Brake, FileMedium, Mode, Output, TrainData, Unit, journal
 
 AUTHORITY = bytes.fromhex("90007F802001432024A8007FE007D002B00D900010000DC03A400020801FE0")
 CYCLE_MS, MOST_CYCLES, SLOTS = 500, 1_000, 64
@@ -50,7 +50,8 @@ def make_ready(unit: Unit) -> None:
     unit.telegram(AUTHORITY)
     unit.identity("IC 704")
     unit.action(Action.CHOOSE_LEVEL_1)
-    unit.train_data(TrainData(20_000, 160_000, 70, 0, 15))
+    # (the reaction time is 0 only here: no real brakes act at once)
+    unit.train_data(TrainData(20_000, 160_000, 70, reaction_ms=0, category=CATEGORY_NONE))
     unit.action(Action.START)
 
 

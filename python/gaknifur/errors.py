@@ -4,15 +4,34 @@ import io
 import os
 import signal
 import sys
+import threading
 import traceback
 from collections.abc import Callable
 
 from .escaping import shown
 
 OWN_FAULT, UNWRITTEN, DEVICE = 5, 1, 3
-INTERRUPTED = 128 + signal.SIGINT
+INTERRUPTED, TERMINATED = 128 + signal.SIGINT, 128 + signal.SIGTERM
 TRACEBACK = "GAKNIFUR_TRACEBACK"
 """The environment variable that also prints the traceback."""
+
+
+class Terminated(KeyboardInterrupt):
+    """The signal SIGTERM, which ends a command like an interrupt, so that it removes what is unfinished."""
+
+
+def catch_termination() -> None:
+    """Raises `Terminated` at the first SIGTERM. A second one, or one in a process that this one forks, ends it at once."""
+    own = os.getpid()
+
+    def terminate(number: int, _: object) -> None:
+        signal.signal(number, signal.SIG_DFL)
+        if os.getpid() != own:
+            os.kill(os.getpid(), number)
+        raise Terminated
+
+    if signal.getsignal(signal.SIGTERM) == signal.SIG_DFL and threading.current_thread() is threading.main_thread():
+        signal.signal(signal.SIGTERM, terminate)
 
 
 def say(text: str) -> None:
@@ -65,6 +84,9 @@ def caught(do: Callable[[], int]) -> int:
         status = do()
         sys.stdout.flush()
         return status
+    except Terminated:
+        say("terminated")
+        return TERMINATED
     except KeyboardInterrupt:
         say("interrupted")
         return INTERRUPTED

@@ -1,20 +1,17 @@
 """Write files without losing existing ones.
 
-A file is overwritten only with `--force`, and only if it is a regular file that this package made, as its first bytes show
-(`Kind`). An image is never overwritten, whatever its name is. A file is written under a temporary name and synced, and is
-renamed once it is whole.
+An existing file is replaced only with `--force`, and only if it is a regular file. An image is never replaced, whatever its name is.
+A file is written under a temporary name and synced, and is renamed once it is whole.
 """
 import contextlib
 import ctypes
 import errno
-import io
 import os
 import re
 import secrets
 import shutil
 import sqlite3
 import stat
-import zipfile
 from collections.abc import Callable, Collection, Iterable, Iterator
 from dataclasses import dataclass
 from pathlib import Path
@@ -30,7 +27,6 @@ from .program import DEVICE, REFUSED, Failed, naming
 
 IMAGE_MARK = layout.MARK
 """The first bytes of an image (docs/reference/format.md)."""
-FIRST_BYTES = 4096
 SQLITE, SQLITE_ID = b"SQLite format 3\0", slice(68, 72)
 WAIT_SECONDS = 60.0
 """How long to wait for a database that another program writes to."""
@@ -45,52 +41,10 @@ MAKER = "gaknifur lab"
 
 
 @dataclass(frozen=True)
-class Kind:
-    """A kind of file, and whether the bytes of a file, or its first bytes, show that this package made it."""
-
-    name: str
-    is_own: Callable[[bytes], bool]
-    is_whole: bool = False
-    """Whether `is_own` needs all bytes, and not only the first ones."""
-
-
-def is_workbook(data: bytes) -> bool:
-    """Whether the bytes of an archive are those of a workbook that this package made."""
-    try:
-        with zipfile.ZipFile(io.BytesIO(data)) as archive:
-            return b">%s</dc:creator>" % MAKER.encode() in archive.read("docProps/core.xml")
-    except (zipfile.BadZipFile, KeyError, OSError, ValueError):
-        return False
-
-
-def beginning(name: str, *marks: bytes) -> Kind:
-    """A kind whose files begin with one of some marks."""
-    return Kind(name, lambda data: data.startswith(marks))
-
-
-def holding(name: str, beginning: bytes, mark: bytes) -> Kind:
-    """A kind whose files begin with `beginning` and contain a mark in their first bytes."""
-    return Kind(name, lambda data: data.startswith(beginning) and mark in data)
-
-
-TABLE = beginning("a table", b"block,event,life,stretch,kind,time_ms,mode,", b"source,slot,byte,block,event,life,kind,")
-DRIVE_TABLE = beginning("a table of a drive", b"time_ms,first_event,event,place_cm,speed_m_per_h,")
-SWEEP_TABLE = beginning("a table of a sweep", b"point,")
-CAMPAIGN_TABLE = beginning("a table of a campaign", b"name,job_sha256,kind,ended,written_sha256,")
-WORKBOOK = Kind("a workbook", lambda data: data.startswith(b"PK") and is_workbook(data), is_whole=True)
-TIMELINE = beginning("a timeline", b"datetime,timestamp_desc,message,timestamp,uncertainty_ms,image,", b'{"datetime": ')
-REPORT = holding("a report", b"<!DOCTYPE html>\n", b'<meta name="generator" content="%s">' % MAKER.encode())
-SVG = holding("a picture", b"<?xml", b"<dc:title>%s</dc:title>" % MAKER.encode())
-PNG = holding("a picture", b"\x89PNG\r\n\x1a\n", b"tEXtSoftware\0%s" % MAKER.encode())
-JUNIT = holding("results in XML", b"<?xml", b'<property name="generator" value="%s"' % MAKER.encode())
-
-
-@dataclass(frozen=True)
 class Out:
     """An output file of a command."""
 
     path: Path
-    kind: Kind
     is_forced: bool = False
 
 
@@ -172,10 +126,8 @@ def check(out: Out, inputs: Iterable[Path] = ()) -> os.stat_result | None:
             raise Failed(f"{path}: its folder doesn't exist", DEVICE)
         return None
     check_plain(path, found, inputs)
-    if not out.kind.is_own(bytes_of(path, None if out.kind.is_whole else FIRST_BYTES)):
-        raise refused(path, f"exists and is not {out.kind.name} that lab made; it is never overwritten")
     if not out.is_forced:
-        raise refused(path, "already exists; --force overwrites what lab made")
+        raise refused(path, "already exists; --force overwrites it")
     if not found.st_mode & 0o222:
         raise refused(path, "exists and is write-protected")
     return found
@@ -374,14 +326,23 @@ def remove_one_left(path: Path, names: Collection[str]) -> None:
 
 
 def is_there(path: Path, inputs: Iterable[Path] = ()) -> bool:
-    """Whether an image exists that a command can continue. Refuses what isn't a regular file, and the inputs of the command."""
-    found = status_of(path)
-    if found is None:
+    """Whether a file exists that a command may add to. Refuses links, what isn't a regular file of one name that may be written, and the
+    inputs of the command."""
+    found, why = status_of(path), ""
+    if path.is_symlink():
+        why = "is a link"
+    elif found is None:
         return False
-    if not stat.S_ISREG(found.st_mode):
-        raise refused(path, "isn't a regular file")
-    if any(read is not None and is_same(found, read) for read in map(status_of, inputs)):
-        raise refused(path, "is a file that is read here")
+    elif not stat.S_ISREG(found.st_mode):
+        why = "isn't a regular file"
+    elif any(read is not None and is_same(found, read) for read in map(status_of, inputs)):
+        why = "is a file that is read here"
+    elif found.st_nlink > 1:
+        why = "has several names (hard links)"
+    elif not found.st_mode & 0o222:
+        why = "is write-protected"
+    if why:
+        raise refused(path, f"{why}, so nothing is added to it. Name a new file. Nothing was changed.")
     return True
 
 

@@ -38,6 +38,26 @@ class Failed(Exception):
         """What a process sends to another one."""
         return Failed, (str(self), self.status)
 
+    def messages(self) -> list[str]:
+        """The messages, one for each line that is printed."""
+        return [str(self)]
+
+
+class AllFailed(Failed):
+    """Several things can't be done; the status is that of the first."""
+
+    def __init__(self, failures: list[Failed]) -> None:
+        super().__init__("\n".join(map(str, failures)), failures[0].status)
+        self.failures = failures
+
+    def __reduce__(self) -> tuple[type[Failed], tuple[list[Failed]]]:  # type: ignore[override]
+        """What a process sends to another one."""
+        return AllFailed, (self.failures,)
+
+    def messages(self) -> list[str]:
+        """The messages, one for each line that is printed."""
+        return [str(one) for one in self.failures]
+
 
 @contextlib.contextmanager
 def naming(what: object) -> Iterator[None]:

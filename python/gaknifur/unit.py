@@ -29,12 +29,12 @@ from typing import Protocol, Self
 from .locks import lock
 from .program import TOP
 from .units import _header
-from .units._header import (ABI, BUILD_INFO_BYTES, OUTPUTS, REQUEST_BYTES, SECTOR, TELEGRAM_BYTES, VERSION_BYTES, Acknowledgement,
+from .units._header import (ABI, BUILD_INFO_BYTES, CATEGORY_NONE, OUTPUTS, REQUEST_BYTES, SECTOR, TELEGRAM_BYTES, VERSION_BYTES, Acknowledgement,
                             Action, Adaptation, Brake, BrakeCause, Cold, Datum, Direction, DroppedVariable, Fault, GroupOutcome,
                             Indication, Kind, Level, LimitCause, Mode, Proof, Reaction, Refusal, RequestKind, SlotState, Status,
                             TelegramOutcome, UnusedReason)
 
-__all__ = ["ABI", "OUTPUTS", "REQUEST_BYTES", "SECTOR", "VERSION_BYTES", "Acknowledgement", "Action", "Brake",
+__all__ = ["ABI", "CATEGORY_NONE", "OUTPUTS", "REQUEST_BYTES", "SECTOR", "VERSION_BYTES", "Acknowledgement", "Action", "Brake",
            "BrakeCause", "ClosedGroup", "Cold", "Datum", "Facts", "Fault", "FileMedium", "GroupOutcome", "Indication", "Kept", "Kind",
            "Level", "LimitCause", "Medium", "MemoryMedium", "Mode", "Output", "OverrideLeft", "Preview", "Proof", "Reaction", "Record",
            "Refusal", "Refused", "Slot", "SlotState", "State", "Status", "Target", "TelegramOutcome", "TrainData", "Unit", "UnitDriver",
@@ -56,7 +56,8 @@ class Output:
 
 @dataclass(frozen=True, slots=True)
 class TrainData:
-    """Train data (SUBSET-026, 3.18.3): 1 to 409,500 cm, 1 to 600,000 m/h, 1 to 300 cm/s^2, 0 to 10,000 ms, 0 to 15."""
+    """Train data (SUBSET-026, 3.18.3): 1 to 409,500 cm, 1 to 600,000 m/h, 1 to 300 cm/s^2, 0 to 10,000 ms, 0 to 15. A reaction time
+    of 0 is the least safe. Category 0 is a category; a train of none has CATEGORY_NONE, 15."""
 
     length_cm: int
     maximum_m_per_h: int
@@ -380,19 +381,31 @@ class FileMedium:
             data += part
         return bytes(data)
 
+    def _fill(self, sectors: int) -> None:
+        """Writes so many sectors of zeros: a length that is only set leaves holes, for which a flush may find no place on the disk."""
+        try:
+            for first in range(0, sectors, 64):
+                self.write(first, bytes(SECTOR * min(64, sectors - first)))
+        except OSError:
+            os.ftruncate(self.descriptor, 0)
+            raise
+
     def _settle(self) -> None:
         """Syncs, and drops the system's copies of the pages: after a failed sync they may differ from the medium."""
         _sync_if_writable(self.descriptor)
         os.posix_fadvise(self.descriptor, 0, 0, os.POSIX_FADV_DONTNEED)
 
     @classmethod
-    def formatted(cls, path: str | Path, slots: int) -> Self:
-        """Creates a file, or empties an existing one, and formats it as an empty journal of 2 to 1,048,576 slots."""
+    def formatted(cls, path: str | Path, slots: int, *, wipe: bool = False) -> Self:
+        """Makes an empty journal of 2 to 1,048,576 slots of a file that is new, or empty, or whose first sector has only zeros. Any
+        other file stays as it is (FileExistsError), unless `wipe` is true: then all in it is lost."""
         first_request(slots)
         medium = cls(path, create=True)
         try:
+            if not wipe and any(os.pread(medium.descriptor, SECTOR, 0)):
+                raise FileExistsError(errno.EEXIST, "it has content, and stays as it is", str(path))
             os.ftruncate(medium.descriptor, 0)
-            os.ftruncate(medium.descriptor, SECTOR * (1 + 6 * slots))
+            medium._fill(1 + 6 * slots)
             format_medium(medium, slots)
             _sync_folder(path)
         except BaseException:
@@ -503,8 +516,22 @@ def first_request(slots: int) -> None:
     _check(_format_request(slots, 0, _header.etcs_unit_request_info(), ctypes.create_string_buffer(SECTOR)))
 
 
-def format_medium(medium: Writable, slots: int) -> None:
-    """Formats a medium of 1 + 6 * slots sectors as an empty journal."""
+def _has_journal(first: bytes) -> bool:
+    """Whether a sector is the first one of a journal."""
+    try:
+        facts(first)
+    except Refused as refused:
+        if refused.number != Status.IMAGE_NOT_FORMATTED:
+            raise
+        return False
+    return True
+
+
+def format_medium(medium: Medium, slots: int, *, wipe: bool = False) -> None:
+    """Formats a medium of 1 + 6 * slots sectors as an empty journal. A medium whose first sector is that of a journal stays as it is
+    (FileExistsError), unless `wipe` is true: then all events in it are lost."""
+    if not wipe and _has_journal(medium.read_sector(0)):
+        raise FileExistsError(errno.EEXIST, "the medium has a journal, and stays as it is")
     request, buffer, index = _header.etcs_unit_request_info(), ctypes.create_string_buffer(SECTOR), 0
     while (status := _format_request(slots, index, request, buffer)) == Status.OK:
         _carry_out(medium, request, buffer)
@@ -682,7 +709,7 @@ class Unit:
     # ---- inputs
 
     def telegram(self, data: bytes) -> None:
-        """The bytes that a balise sent, 1 to 104; they need not be a valid telegram."""
+        """The user bits of a telegram as bytes, 1 to 104, as the reader of balises decodes them; they need not be a valid telegram."""
         self._call("telegram", data, len(data))
 
     def odometer(self, movement_cm: int, speed_m_per_h: int) -> None:

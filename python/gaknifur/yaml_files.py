@@ -49,6 +49,8 @@ def shortened(text: str) -> str:
 def guess(word: str, words: Iterable[str]) -> str:
     """The nearest known word, and all known words."""
     there = sorted(words)
+    if not there:
+        return "none is defined"
     near = difflib.get_close_matches(word, there, 1)
     return (f"did you mean \"{near[0]}\"? " if near else "") + f"known: {', '.join(there)}"
 

@@ -11,7 +11,6 @@ from types import SimpleNamespace
 from typing import Any
 from unittest.mock import patch
 
-from gaknifur import files
 from gaknifur.cli import drive_commands
 from gaknifur.program import Failed
 from gaknifur.simulation import closed_loop, drives, driving
@@ -376,9 +375,7 @@ class Pictures(unittest.TestCase):
             self.assertEqual(sum(text in svg for text in (b"end of authority", b"supervised location")), count)
         self.assertTrue(drawn(driven, None, "a drive", ".png").startswith(b"\x89PNG"))
         with self.assertRaisesRegex(Failed, "--picture: the file name has to end in .svg or .png"):
-            drive_commands.picture_kind(Path("drive.gif"))
-        self.assertTrue(files.SVG.is_own(svg[:files.FIRST_BYTES]))
-        self.assertTrue(files.PNG.is_own(drawn(driven, None, "a drive", ".png")[:files.FIRST_BYTES]))
+            drive_commands.outs_of(SimpleNamespace(picture=Path("drive.gif")))
 
 
 class Library(unittest.TestCase):

@@ -3,24 +3,28 @@ import contextlib
 import io
 import multiprocessing
 import os
+import re
 import socket
 import sqlite3
 import subprocess
+import sys
 import unittest
-from collections.abc import Callable
+from collections.abc import Callable, Iterator
 from pathlib import Path
 from types import SimpleNamespace
 from unittest.mock import patch
 
+import click
+
 from gaknifur import files
 from gaknifur.__main__ import main
 from gaknifur.cli import drive_commands
+from gaknifur.cli.commands import lab
 from gaknifur.files import Out
-from gaknifur.journal import database, tables
+from gaknifur.journal import database, layout, tables
 from gaknifur.program import DEVICE, REFUSED, Failed
 from gaknifur.simulation import campaign_table, closed_loop, drives
 from gaknifur.simulation.driving import Driven
-from gaknifur.testing import scenarios
 from gaknifur.testing.scenarios import Scenario
 from gaknifur.unit import Medium, MemoryMedium
 
@@ -30,6 +34,16 @@ TOP = Path(__file__).resolve().parents[2]
 IMAGE = files.IMAGE_MARK + bytes(504)
 TABLE = b"block,event,life,stretch,kind,time_ms,mode,level\n"
 NAMES = ("a#b", "a?b", "a%41", "a b\n", "a'b\"", os.fsdecode(b"a\xff"), "\u202ea")
+
+
+DRIVE = """\
+steps: [start]
+drive:
+  train: {acceleration: 0.6 m/s2, service: 0.9 m/s2}
+  driver: {heeds: limit}
+  time_step: 500 ms
+  lasts: 1 s
+"""
 
 
 class Room(InFolder):
@@ -58,24 +72,24 @@ class Writing(Room):
 
     def test_a_new_file_of_any_name(self) -> None:
         for name in NAMES:
-            files.write(Out(self.room / name, files.TABLE), "new")
+            files.write(Out(self.room / name), "new")
             self.assertEqual((self.room / name).read_bytes(), b"new")
         self.assertEqual(self.names(), sorted(NAMES))
 
-    def test_what_lab_made_only_with_force(self) -> None:
-        path = self.file("out", TABLE)
-        self.refuses("out: already exists; --force overwrites what lab made", Out(path, files.TABLE))
-        path.chmod(0o640)
-        files.write(Out(path, files.TABLE, True), b"new")
-        self.assertEqual((path.read_bytes(), path.stat().st_mode & 0o777), (b"new", 0o640))
-
-    def test_nothing_else_even_with_force(self) -> None:
-        for data in (b"", b"text", b"block,event\n", b"<!DOCTYPE html>\n<p>", b"\x89PNG\r\n\x1a\n", b"SQLite format 3\0"):
+    def test_an_existing_file_only_with_force_whoever_made_it(self) -> None:
+        for data in (b"", b"text", TABLE, b"point,my own notes\n", b'{"datetime": "mine"}\n', b"SQLite format 3\0"):
             path = self.file("out", data)
-            for kind in (files.TABLE, files.REPORT, files.PNG, files.SVG, files.JUNIT, scenarios.FILE):
-                self.refuses("is not .* that lab made; it is never overwritten", Out(path, kind, True))
+            self.refuses("out: already exists; --force overwrites it", Out(path))
             self.assertEqual(path.read_bytes(), data)
-        self.refuses("is not a report that lab made", Out(self.file("out", TABLE), files.REPORT, True))
+            path.chmod(0o640)
+            files.write(Out(path, True), b"new")
+            self.assertEqual((path.read_bytes(), path.stat().st_mode & 0o777), (b"new", 0o640))
+
+    def test_one_file_and_not_its_other_names(self) -> None:
+        path = self.file("out", TABLE)
+        (self.room / "second").hardlink_to(path)
+        files.write(Out(path, True), b"new")
+        self.assertEqual((path.read_bytes(), (self.room / "second").read_bytes()), (b"new", TABLE))
 
     def test_no_image(self) -> None:
         path = self.file("image", IMAGE)
@@ -84,25 +98,25 @@ class Writing(Room):
         (self.room / "second").hardlink_to(path)
         for name in ("image", "link", "second"):
             for is_forced in (False, True):
-                self.refuses("is the input file .*image", Out(self.room / name, files.TABLE, is_forced), path)
-        self.refuses("other: holds a journal, which is never overwritten", Out(other, files.TABLE, True), path)
+                self.refuses("is the input file .*image", Out(self.room / name, is_forced), path)
+        self.refuses("other: holds a journal, which is never overwritten", Out(other, True), path)
         self.assertEqual((path.read_bytes(), other.read_bytes()), (IMAGE, IMAGE))
 
     def test_no_file_that_nobody_may_write(self) -> None:
         path = self.file("out", TABLE)
         path.chmod(0o444)
-        self.refuses("is write-protected", Out(path, files.TABLE, True))
+        self.refuses("is write-protected", Out(path, True))
 
     def test_nothing_but_regular_files(self) -> None:
         os.mkfifo(self.room / "pipe")
         (self.room / "folder").mkdir()
         for path in (self.room / "pipe", self.room / "folder", Path("/dev/null"), Path("/dev/zero")):
-            self.refuses("isn't a regular file", Out(path, files.TABLE, True))
+            self.refuses("isn't a regular file", Out(path, True))
 
     def test_a_link_goes_on_leading_to_what_is_written(self) -> None:
         path = self.file("out", TABLE)
         (self.room / "link").symlink_to("out")
-        files.write(Out(self.room / "link", files.TABLE, True), b"new")
+        files.write(Out(self.room / "link", True), b"new")
         self.assertTrue((self.room / "link").is_symlink())
         self.assertEqual(path.read_bytes(), b"new")
 
@@ -115,19 +129,19 @@ class Writing(Room):
             link(one, other)
 
         with patch("os.link", taken), self.assertRaisesRegex(Failed, "was created by somebody else meanwhile"):
-            files.write(Out(path, files.TABLE), b"new")
+            files.write(Out(path), b"new")
         self.assertEqual((path.read_bytes(), self.names()), (b"other", ["out"]))
 
     def test_no_links(self) -> None:
         with patch("os.link", side_effect=PermissionError):
-            files.write(Out(self.room / "out", files.TABLE), b"new")
+            files.write(Out(self.room / "out"), b"new")
             self.assertEqual(((self.room / "out").read_bytes(), self.names()), (b"new", ["out"]))
 
     def test_whole_or_not_at_all(self) -> None:
         path = self.file("out", TABLE)
         for call in ("os.fsync", "os.replace"):
             with patch(call, side_effect=OSError(28, "No space left on device")), self.assertRaisesRegex(Failed, "No space left") as caught:
-                files.write(Out(path, files.TABLE, True), b"new")
+                files.write(Out(path, True), b"new")
             self.assertEqual((caught.exception.status, path.read_bytes(), self.names()), (DEVICE, TABLE, ["out"]))
 
     def test_synced_before_it_has_its_name_and_its_folder_after(self) -> None:
@@ -141,52 +155,98 @@ class Writing(Room):
             return call
 
         with patch("os.fsync", noted("sync", sync)), patch("os.link", noted("name", link)), patch("os.replace", noted("name", replace)):
-            files.write(Out(self.room / "out", files.TABLE), TABLE)
-            files.write(Out(self.room / "out", files.TABLE, True), TABLE)
+            files.write(Out(self.room / "out"), TABLE)
+            files.write(Out(self.room / "out", True), TABLE)
         self.assertEqual(calls, ["sync file", "name", "sync folder"] * 2)
 
     def test_two_of_one_name(self) -> None:
         (self.room / "link").symlink_to(self.room / "out")
         with self.assertRaisesRegex(Failed, "is named twice"):
-            files.check_all([Out(self.room / "out", files.TABLE), Out(self.room / "link", files.TABLE)])
+            files.check_all([Out(self.room / "out"), Out(self.room / "link")])
         with self.assertRaisesRegex(Failed, "is named twice"):
-            files.check_all([Out(self.room / "out", files.TABLE)], others=[self.room / "out"])
+            files.check_all([Out(self.room / "out")], others=[self.room / "out"])
 
-    def test_a_scenario_that_lab_laid_out(self) -> None:
-        built = Scenario(1, [{"at": 1, "spacing": 300, "balises": ["90"]}], [{"driver": [6]}]).text().encode()
-        self.assertTrue(scenarios.is_built(built))
-        for data in (built + b" ", built.replace(b'"driver": ', b'"driver":'), b"[1]", b"{}", b"x", b"[" * 100_000):
-            self.assertFalse(scenarios.is_built(data))
+
+def commands_of(group: click.Group, *words: str) -> Iterator[tuple[list[str], click.Command]]:
+    """The commands of lab, with their words."""
+    for name, one in group.commands.items():
+        if isinstance(one, click.Group):
+            yield from commands_of(one, *words, name)
+        else:
+            yield [*words, name], one
+
+
+def written() -> Iterator[tuple[list[str], click.Command, click.Parameter, str]]:
+    """Each file that a command of lab may write: the command, the parameter that names the file, and a suffix that it may have."""
+    for words, command in commands_of(lab):
+        for one in command.params:
+            if "OUT" in (one.metavar or "") or one.name in ("archive", "image") and isinstance(one, click.Option):
+                for suffix in re.findall(r"OUT((?:\.\w+)*)", one.metavar or "") or [""]:
+                    yield words, command, one, ".svg" if one.name == "picture" else suffix
+
+
+def line_of(words: list[str], command: click.Command, param: click.Parameter, out: Path) -> list[str]:
+    """A command that writes this file, and reads files of the folder."""
+    line = [*words, *{"case": ["--event", "1"], "campaign": ["--random", "1"]}.get(words[0], [])]
+    for one in command.params:
+        if isinstance(one, click.Argument):
+            shown = one.metavar or ""
+            line += [str(out)] if one is param else ["new.db"] if "OUT.db" in shown else [] if not one.required and "FILE" not in shown and \
+                "FOLDER" not in shown else ["a.yaml" if "yaml" in shown else "empty" if "FOLDER" in shown else "image"]
+    return line if isinstance(param, click.Argument) else [*line, param.opts[0], str(out)]
 
 
 class Words(Room):
     """The words of lab leave what is there."""
 
-    def test_image_and_yaml_stay(self) -> None:
-        image, yaml = self.file("image", IMAGE), self.file("a.yaml", b"steps: [start]\n")
-        self.file("notes.csv", b"my own notes\n")
-        before = {name: (self.room / name).read_bytes() for name in self.names()}
-        tried = 0
-        for name in (*before, "folder"):
-            out = str(self.room / name)
-            for words in (["table", str(image), out], ["report", str(image), out], ["database", str(image), out],
-                          ["build", str(yaml), out], ["campaign", "--random", "1", out],
-                          ["campaign", "--random", "1", "--csv", out, str(self.room / "new.db")]):
-                (self.room / "folder").mkdir(exist_ok=True)
-                forces: list[list[str]] = [[], ["--force"] if words[0] != "database" else []]
-                for force in forces:
-                    errors = io.StringIO()
-                    with contextlib.redirect_stderr(errors), patch("gaknifur.simulation.campaign_table.settings_of", dict):
-                        self.assertEqual(main([*words, *force]), REFUSED, words)
-                    self.assertEqual(len(errors.getvalue().splitlines()), 1)
-                    tried += 1
-        self.assertEqual({name: (self.room / name).read_bytes() for name in before}, before)
-        self.assertEqual((tried, self.names()), (4 * 6 * 2, sorted([*before, "folder"])))
+    def stays(self, line: list[str], path: Path) -> None:
+        """A command is refused in one line, which names the file, and changes nothing in the folder."""
+        before = {one: one.read_bytes() for one in self.room.rglob("*") if one.is_file()}
+        errors = io.StringIO()
+        with contextlib.redirect_stderr(errors), contextlib.chdir(self.room), patch.object(drive_commands, "check_library"), \
+                patch.object(campaign_table, "settings_of", dict):
+            self.assertIn(main(line), (REFUSED, DEVICE), (line, errors.getvalue()))
+        self.assertEqual(len(errors.getvalue().splitlines()), 1)
+        self.assertTrue(line[0] == "join" or errors.getvalue().startswith(f"lab: {path}: "), errors.getvalue())
+        self.assertEqual({one: one.read_bytes() for one in self.room.rglob("*") if one.is_file()}, before)
+
+    def test_of_all_commands(self) -> None:
+        self.file("image", layout.first_sector(2) + bytes(512 * 12))
+        self.file("a.yaml", DRIVE.encode())
+        (self.room / "empty").mkdir()
+        found = list(written())
+        self.assertGreaterEqual({(" ".join(words), one.name) for words, _, one, _ in found}, {
+            ("table", "out"), ("case", "out"), ("join", "out"), ("follow", "archive"), ("test", "junitxml"), ("line check", "html"),
+            ("sweep", "csv"), ("drive", "image"), ("drive", "scenario"), ("campaign", "paths"), ("campaign", "csv")})
+        for words, command, one, suffix in found:
+            force = ["--force"] if any("--force" in other.opts for other in command.params) else []
+            foreign, image, folder = self.file(f"foreign{suffix}", b"point,my own\n"), self.file(f"other{suffix}", IMAGE), self.room / f"folder{suffix}"
+            folder.mkdir(exist_ok=True)
+            tries: list[tuple[Path, list[str]]] = [(foreign, []), (image, []), (image, force), (folder, force)]
+            for path, forces in tries:
+                with self.subTest(command=" ".join(words), one=one.name, path=path.name, forces=forces):
+                    self.stays([*line_of(words, command, one, path), *forces], path)
+
+    def test_with_force_another_s_file_is_replaced(self) -> None:
+        path = self.file("mine.lua", b"-- my own\n")
+        self.assertEqual(main(["dissector", str(path), "--force"]), 0)
+        self.assertTrue(path.read_bytes().startswith(b"-- Made by ./lab dissector"))
+
+    def test_a_folder_for_what_is_found_is_new(self) -> None:
+        (self.room / "kept").mkdir()
+        (self.room / "link").symlink_to("nowhere")
+        for name in ("kept", "link"):
+            for words in (["search", str(TOP / "suites/safety_laws.search.yaml"), "--examples", "1"], ["hazards", "--minutes", "0.01"]):
+                errors = io.StringIO()
+                with contextlib.redirect_stderr(errors), contextlib.redirect_stdout(io.StringIO()):
+                    self.assertEqual(main([*words, "--keep", str(self.room / name)]), REFUSED, words)
+                self.assertIn(f"{name}: already exists; name a new folder", errors.getvalue())
+        self.assertEqual(list((self.room / "kept").iterdir()), [])
 
     def test_of_a_drive(self) -> None:
         image, yaml = self.file("image", IMAGE), self.file("a.yaml", b"")
         given = SimpleNamespace(yaml=yaml, image=image, csv=None, scenario=None, picture=None, force=True)
-        for name, path in (("csv", image), ("scenario", yaml), ("picture", self.file("a.svg", b"<svg/>"))):
+        for name, path in (("csv", image), ("scenario", yaml), ("picture", self.file("a.svg", IMAGE))):
             with self.assertRaises(Failed) as caught:
                 drive_commands.outs_of(SimpleNamespace(**vars(given) | {name: path}))
             self.assertEqual(caught.exception.status, REFUSED)
@@ -195,16 +255,6 @@ class Words(Room):
         with self.assertRaisesRegex(Failed, "is named twice"):
             drive_commands.outs_of(SimpleNamespace(**vars(given) | {"csv": self.room / "b", "image": self.room / "b"}))
         self.assertEqual(list(drive_commands.outs_of(SimpleNamespace(**vars(given) | {"csv": self.room / "b"}))), ["csv"])
-
-
-DRIVE = """\
-steps: [start]
-drive:
-  train: {acceleration: 0.6 m/s2, service: 0.9 m/s2}
-  driver: {heeds: limit}
-  time_step: 500 ms
-  lasts: 1 s
-"""
 
 
 class Images(Room):
@@ -226,7 +276,7 @@ class Images(Room):
         return Driven()
 
     def test_one_that_is_there_goes_on_in_the_unit_s_own_order(self) -> None:
-        image = self.file("image", IMAGE * 3)
+        image = self.own("image")
         calls: list[object] = []
         write, sync = os.pwrite, os.fsync
 
@@ -245,8 +295,46 @@ class Images(Room):
         self.assertEqual(calls[-4:], [(1024, 512), "sync", (512, 512), "sync"])
         self.assertEqual(image.read_bytes(), IMAGE + b"\1" * 512 + b"\2" * 512)
 
+    def own(self, name: str) -> Path:
+        """An image that a drive made."""
+        self.file(f"{name}.identity", b"unit: lab drive\n")
+        return self.file(name, IMAGE * 3)
+
+    def refuses_image(self, path: Path, message: str) -> None:
+        """A drive is refused, with what to do, and changes nothing."""
+        before = {name: (self.room / name).read_bytes() for name in self.names() if (self.room / name).is_file()}
+        with self.assertRaisesRegex(Failed, f"{message}.* Name a new file. Nothing was changed.$") as caught, \
+                patch.object(drive_commands, "on_medium", self.on_medium), patch.object(drive_commands, "fresh", lambda *given: b""), \
+                patch.object(drive_commands, "over_image", lambda *given: (Driven(), IMAGE * 2)):
+            drive_commands.on_file(path, self.scenario, self.drive)
+        self.assertEqual(caught.exception.status, REFUSED)
+        self.assertEqual({name: (self.room / name).read_bytes() for name in self.names() if (self.room / name).is_file()}, before)
+
+    def test_one_that_no_drive_made(self) -> None:
+        self.refuses_image(self.file("evidence", IMAGE * 3), r"evidence: isn't an image that `lab drive` made, since .*evidence.identity doesn't say")
+        for identity in (b"", b"unit: 17\n", b"software: lab drive\n"):
+            self.file("evidence.identity", identity)
+            self.refuses_image(self.room / "evidence", "isn't an image that `lab drive` made")
+            self.file("gone.identity", identity)
+            self.refuses_image(self.room / "gone", "isn't an image that `lab drive` made")
+
+    def test_one_that_other_names_lead_to_or_that_is_protected(self) -> None:
+        self.own("link"), self.own("second")
+        for name in ("link", "second"):
+            (self.room / name).unlink()
+        evidence = self.file("evidence", IMAGE * 3)
+        (self.room / "link").symlink_to(evidence)
+        self.refuses_image(self.room / "link", "link: is a link")
+        (self.room / "second").hardlink_to(evidence)
+        self.refuses_image(self.room / "second", r"second: has several names \(hard links\)")
+        (self.room / "link").unlink()
+        (self.room / "link").symlink_to("nothing")
+        self.refuses_image(self.room / "link", "link: is a link")
+        self.own("protected").chmod(0o444)
+        self.refuses_image(self.room / "protected", "protected: is write-protected")
+
     def test_a_cut_within_it_loses_nothing_that_was_there(self) -> None:
-        image = self.file("image", IMAGE * 3)
+        image = self.own("image")
         with patch("os.pwrite", side_effect=OSError(5, "Input/output error")), patch.object(drive_commands, "on_medium", self.on_medium), \
                 self.assertRaisesRegex(Failed, "Input/output error"):
             drive_commands.on_file(image, self.scenario, self.drive)
@@ -257,7 +345,11 @@ class Images(Room):
         with patch.object(drive_commands, "fresh", lambda *given: b""), \
                 patch.object(drive_commands, "over_image", lambda *given: (Driven(), IMAGE * 2)):
             drive_commands.on_file(image, self.scenario, self.drive)
-        self.assertEqual((image.read_bytes(), self.names()), (IMAGE * 2, ["a.yaml", "image"]))
+            self.assertEqual((image.read_bytes(), self.names()), (IMAGE * 2, ["a.yaml", "image", "image.identity"]))
+            self.assertEqual((self.room / "image.identity").read_text(), "unit: lab drive\n")
+            image.unlink()
+            drive_commands.on_file(image, self.scenario, self.drive)
+        self.assertEqual((image.read_bytes(), self.names()), (IMAGE * 2, ["a.yaml", "image", "image.identity"]))
 
     def test_no_image(self) -> None:
         os.mkfifo(self.room / "pipe")
@@ -310,6 +402,30 @@ class Inputs(Room):
             self.assertEqual(file.read(), b"text")
 
 
+TERMINATED = """
+import os, signal, sys
+from unittest.mock import patch
+from gaknifur.__main__ import main
+def end(data):
+    if not os.fork():
+        os.kill(os.getpid(), signal.SIGTERM)
+    print(os.WTERMSIG(os.wait()[1]), sorted(os.listdir(data)), flush=True)
+    os.kill(os.getpid(), signal.SIGTERM)
+with patch("gaknifur.evidence.seal.write_outputs", end):
+    sys.exit(main(["seal", *sys.argv[1:]]))
+"""
+
+
+class Terminated(Room):
+    """A command that is terminated."""
+
+    def test_nothing_is_left(self) -> None:
+        self.file("image", IMAGE)
+        done = subprocess.run([sys.executable, "-c", TERMINATED, self.room / "image", self.room / "bag"], cwd=TOP / "python", capture_output=True, text=True)
+        self.assertEqual((done.stdout, done.stderr, done.returncode), ("15 ['image']\n", "lab: terminated\n", 143))
+        self.assertEqual(self.names(), ["image"])
+
+
 class Databases(Room):
     """Databases."""
 
@@ -319,9 +435,25 @@ class Databases(Room):
             database.open_database(path).close()
             campaign_table.Table(path.with_name(f"{name}.c"), {"a": "b"}).close()
             self.assertEqual(list(campaign_table.rows_of(path.with_name(f"{name}.c"))), [])
-            campaign_table.write_csv(path.with_name(f"{name}.c"), Out(path.with_name(f"{name}.csv"), files.CAMPAIGN_TABLE))
-            self.assertTrue(files.CAMPAIGN_TABLE.is_own(path.with_name(f"{name}.csv").read_bytes()))
+            campaign_table.write_csv(path.with_name(f"{name}.c"), Out(path.with_name(f"{name}.csv")))
+            self.assertTrue(path.with_name(f"{name}.csv").read_bytes().startswith(b"name,job_sha256,"))
         self.assertEqual(self.names(), sorted(name + end for name in NAMES for end in ("", ".c", ".csv")))
+
+    def test_altered_databases_are_refused(self) -> None:
+        endless = "WITH RECURSIVE r(x) AS (SELECT 1 UNION ALL SELECT x + 1 FROM r)"
+        altered = [f"DROP TABLE image; CREATE VIEW Image AS {endless} SELECT 'x' || x AS sha256 FROM r",
+                   f"CREATE TRIGGER t AFTER INSERT ON image BEGIN INSERT INTO cause_word {endless} SELECT x, x, x FROM r; END",
+                   *(f"PRAGMA writable_schema = ON; UPDATE sqlite_master SET {column} = x'ff' WHERE name = 'image'" for column in ("name", "sql"))]
+        for number, statements in enumerate(altered):
+            path = self.room / str(number)
+            database.open_database(path).close()
+            with contextlib.closing(sqlite3.connect(path)) as connection:
+                connection.executescript(statements)
+            with self.subTest(statements):
+                with self.assertRaises(Failed) as found, contextlib.closing(database.open_database(path)) as connection:
+                    connection.set_progress_handler(lambda: True, 10_000_000)
+                    database.add(connection, journal(record(0, "powerup")), tables.frame(journal(record(0, "powerup"))))
+                self.assertNotIn("interrupted", str(found.exception))
 
     def test_what_is_no_such_database_stays(self) -> None:
         path = self.room / "other"

@@ -1,8 +1,10 @@
 """Another unit under the protocol of docs/howto/oracle.md, and properties of records (docs/howto/searching.md)."""
+import contextlib
 import json
 import os
 import resource
 import shlex
+import socket
 import sys
 import tempfile
 import time
@@ -215,12 +217,13 @@ time.sleep(600)
     except OSError as error:
         return os.strerror(error.errno)
 scratch = os.environ["TMPDIR"]
-greet("; ".join((tried(lambda: open(WRITTEN, "w")), tried(lambda: open(scratch + "/a", "w")),
+greet("; ".join((tried(lambda: open(os.environ["GAKNIFUR_A"] + "/made", "w")), tried(lambda: open(scratch + "/../made", "w")),
+                 tried(lambda: open(scratch + "/a", "w")),
                  tried(lambda: open(scratch + "/b", "wb").write(bytes(70 << 20))), str(len(socket.if_nameindex())), str(os.getpid() < 10))))
 """
         with tempfile.TemporaryDirectory() as room:
-            name = self.name(text.replace("WRITTEN", repr(f"{room}/made")))
-            self.assertEqual(name, "Read-only file system; done; File too large; 1; True")
+            name = self.name(text, GAKNIFUR_A=room)
+            self.assertEqual(name, "Read-only file system; Read-only file system; done; File too large; 1; True")
             self.assertEqual(list(Path(room).iterdir()), [])
         for text, message in (("os.kill(os.getpid(), 11)", "it was ended by signal 11 (SIGSEGV)"), ("sys.exit(3)", "it ended with status 3")):
             with self.unit(text) as unit, self.assertRaises(Broken) as found:
@@ -229,6 +232,30 @@ greet("; ".join((tried(lambda: open(WRITTEN, "w")), tried(lambda: open(scratch +
         with self.assertRaises(Failed) as failed:
             OtherUnit("/nowhere/unit")
         self.assertIn("/nowhere/unit: No such file", str(failed.exception))
+
+    def test_it_has_nothing_of_the_session(self) -> None:
+        if sandbox.bubblewrap() is None:
+            self.skipTest("bubblewrap doesn't work here")
+        folders = [self.enterContext(tempfile.TemporaryDirectory()) for _ in range(2)]
+        sockets = [f"{folder}/a" for folder in folders]
+        for path in sockets:
+            listening = self.enterContext(socket.socket(socket.AF_UNIX))
+            listening.bind(path)
+            listening.listen()
+        text = f"found = [socket.socket(socket.AF_UNIX).connect_ex(path) == 0 for path in {sockets}]\n" + (
+            "greet(json.dumps(found + [name in os.environ for name in ('SSH_AUTH_SOCK', 'LANG', 'GAKNIFUR_A')]))")
+        session = {"SSH_AUTH_SOCK": sockets[0], "XDG_RUNTIME_DIR": folders[1], "LANG": "C.UTF-8", "GAKNIFUR_A": "a"}
+        self.assertEqual(json.loads(self.name(text, **session, **NO_SANDBOX)), [True] * 5)
+        self.assertEqual(json.loads(self.name(text, **session)), [False, False, False, True, True])
+
+    def test_the_files_of_its_command_are_there(self) -> None:
+        folder, linked, other = (Path(self.enterContext(tempfile.TemporaryDirectory())) for _ in range(3))
+        (folder / "own.py").write_text(GREETS)
+        (folder / "unit.py").write_text("import os, own, sys\nown.greet(' '.join(str(os.path.exists(one)) for one in sys.argv[1].split(':')))")
+        (linked / "link").symlink_to(folder)
+        for current, program in ((Path(), folder), (Path(), linked / "link"), (linked, Path("link"))):
+            with contextlib.chdir(current), OtherUnit(shlex.join([sys.executable, f"{program}/unit.py", f"{folder}/own.py:{other}"]), 20) as unit:
+                self.assertEqual(unit.greet("a").unit, f"True {sandbox.bubblewrap() is None}")
 
     def test_its_name_is_spelled(self) -> None:
         for name, wanted in (("good\nnothing differs\x1b[8m", "good\\x0anothing differs\\x1b[8m"), ("\ud800", "\\ud800"),

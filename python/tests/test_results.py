@@ -70,7 +70,7 @@ class Results(InFolder):
         self.assertIn("expected: brake none\nfound:    &lt;b&gt;</pre>", text)
         self.assertEqual(re.findall("<script|<link|src=|href=|url[(]", text), [])
         self.assertEqual((self.lab("friday.xml", "a.html")[0], self.lab("friday.xml", "a.html", "--force")[0]), (1, 4))
-        self.assertEqual(self.lab("friday.xml", "monday.xml", "--force")[0], 1)
+        self.assertEqual(self.lab("friday.xml", "monday.xml")[0], 1)
 
     def test_equal_names_are_all_counted(self) -> None:
         (self.room / "twice.xml").write_text(HEAD.format("2031-01-01", test("one", "n", "3", "1", FAILED) + test("one", "n", "3", "1")))

@@ -1,7 +1,11 @@
 """The word `search`: what is kept of what is found (docs/howto/searching.md)."""
+import contextlib
+import io
 import unittest
+from pathlib import Path
 
-from gaknifur.cli.search_commands import names_of
+from gaknifur.cli.search_commands import names_of, report_held
+from gaknifur.testing import properties
 
 LONG = "while the train stands and nothing has been heard of a track for a long time"
 
@@ -17,6 +21,18 @@ class Names(unittest.TestCase):
         found = names_of([f"{LONG}, it brakes", f"{LONG}, it is tripped", "a", "a", "A 2", "a"])
         self.assertEqual(found, ["while_the_train_stands_and_nothing_has_been_heard_of_a_track",
                                  "while_the_train_stands_and_nothing_has_been_heard_of_a_track_2", "a", "a_2", "a_2_2", "a_3"])
+
+
+class Results(unittest.TestCase):
+    """What is printed of a property that no record breaks."""
+
+    def test_few_records_of_random_scenarios_are_thin(self) -> None:
+        one = properties.read(Path(__file__).parents[2] / "suites/safety_laws.search.yaml").properties[0]
+        for judged, where, wanted in ((100, " of 60 scenarios", "holds"), (99, " of 60 scenarios", "thin"), (0, " of 60 scenarios", "unjudged"),
+                                      (1, "", "holds"), (0, "", "unjudged")):
+            with contextlib.redirect_stdout(io.StringIO()) as printed:
+                self.assertEqual(report_held(one, judged, where), not judged)
+            self.assertEqual(printed.getvalue(), f"{wanted}: {one.note}: {judged} records judged{where}\n")
 
 
 if __name__ == "__main__":

@@ -177,7 +177,6 @@ class Captures(unittest.TestCase):
         self.assertEqual(count, 1)
         self.assertEqual(data[:24].hex(), "d4c3b2a1020004000000000000000000ffff000093000000")
         self.assertEqual(data[24:].hex(), "01000000d0070000" + "03000000" * 2 + "90007f")
-        self.assertTrue(dissector.CAPTURE.is_own(data))
 
     def test_lives_follow_each_other(self) -> None:
         """By hand: the second life begins at 2 s, the third one at 2 s + 3,999 ms, and so after 7 s."""
@@ -191,4 +190,3 @@ class Captures(unittest.TestCase):
         text = dissector.lua()
         self.assertIn('    [66] = {"NID_TSR"},\n', text)
         self.assertIn('{where = "Q_SECTIONTIMER", is = 1, "T_SECTIONTIMER", "D_SECTIONTIMERSTOPLOC"}', text)
-        self.assertTrue(dissector.LUA.is_own(text.encode()))

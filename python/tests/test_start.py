@@ -155,18 +155,16 @@ class Folders(Room):
 
     def test_results_in_xml(self) -> None:
         (self.work / "a.case.yaml").write_text(CASE)
-        others = '<?xml version="1.0" encoding="utf-8"?><testsuites><testsuite name="pytest" errors="0" failures="0" skipped="0" ' \
-                 'tests="1" time="0.01" timestamp="2026-01-01T00:00:00" hostname="here"><testcase classname="a" name="b" time="0.01" />' \
-                 '</testsuite></testsuites>'
-        for notes in ("my own notes", others):
-            (self.work / "notes.xml").write_text(notes)
-            status, output, stderr = self.lab("test", ".", "--junitxml=notes.xml", "--force")
-            self.assertEqual((status, stderr.split(": ")[1], (self.work / "notes.xml").read_text()), (1, "notes.xml", notes))
+        (self.work / "notes.xml").write_text("my own notes")
+        status, output, stderr = self.lab("test", ".", "--junitxml=notes.xml")
+        self.assertEqual((status, stderr.split(": ")[1], (self.work / "notes.xml").read_text()), (1, "notes.xml", "my own notes"))
+        self.assertEqual(self.lab("test", "a.case.yaml", "--junitxml=a.case.yaml", "--force")[2], "lab: a.case.yaml: is the input file a.case.yaml\n")
+        self.assertEqual((self.work / "a.case.yaml").read_text(), CASE)
         status, output, stderr = self.lab("test", ".", "--junitxml", "out.xml")
         first = (self.work / "out.xml").read_text()
         self.assertIn(f"generated xml file: {self.work / 'out.xml'}", output)
         self.assertIn('errors="1"', first)
-        self.assertEqual(self.lab("test", ".", "--junitxml=out.xml")[2], "lab: out.xml: already exists; --force overwrites what lab made\n")
+        self.assertEqual(self.lab("test", ".", "--junitxml=out.xml")[2], "lab: out.xml: already exists; --force overwrites it\n")
         self.assertEqual((self.work / "out.xml").read_text(), first)
         self.lab("test", ".", "--junitxml=out.xml", "--force")
         self.assertNotEqual((self.work / "out.xml").read_text(), first)  # its moment is another one
@@ -176,7 +174,7 @@ class Folders(Room):
         (self.work / "a.case.yaml").write_text(CASE)
         (self.work / "conftest.py").write_text("open('out.xml', 'x').write('my own notes')\n")
         status, _, stderr = self.lab("test", ".", "--junitxml=out.xml", "--python")
-        self.assertEqual((status, stderr), (1, "lab: out.xml: exists and is not results in XML that lab made; it is never overwritten\n"))
+        self.assertEqual((status, stderr), (1, "lab: out.xml: already exists; --force overwrites it\n"))
         self.assertEqual((self.work / "out.xml").read_text(), "my own notes")
 
 

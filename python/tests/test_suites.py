@@ -1,4 +1,6 @@
 """Scenarios and test cases in YAML: how they are expanded, and the errors for their faults."""
+import contextlib
+import io
 import json
 import re
 import time
@@ -6,8 +8,9 @@ import unittest
 from pathlib import Path
 from unittest.mock import patch
 
+from gaknifur.__main__ import main
 from gaknifur.etcs_run import Released
-from gaknifur.program import Failed
+from gaknifur.program import REFUSED, AllFailed, Failed
 from gaknifur.testing import case_files, case_runner, cases, coverage, scenarios, telegrams
 from gaknifur.testing.case_runner import Missed, Played, with_speeds
 from gaknifur.testing.cases import derived
@@ -103,7 +106,11 @@ steps: [{use: both}, {drive: 150.5 m at 36.5 km/h}, {confirm: running_number}, f
                 ("include: x.case.yaml\nsteps: []", "1:10: x.case.yaml includes itself"),
                 ("groups: [{at: 0 m, balises: [a]}]\nsteps: []", '1:15: "0 m" is not between 1 and 100,000,000 cm'),
                 ("groups: [{at: 1 m, balises: [\"90\", \"90\"]}]\nsteps: []", "1:10: spacing is missing"),
-                ("steps: [{telegram: xy}]", '1:20: no telegram is called "xy"'),
+                ("steps: [{telegram: xy}]", '1:20: no telegram is called "xy"; none is defined'),
+                ("telegrams: {there: '90'}\nsteps: [{telegram: three}]", '2:20: no telegram is called "three"; did you mean "there"? known: there'),
+                ("steps: [{telegram: '12: V_MAIN 24'}]", "1:20: NID_BG is missing: a telegram begins with its header, such as"),
+                ("steps: [{use: nowhere}]", '1:15: "nowhere" is not allowed here; none is defined'),
+                ("steps: [{enter_identity: Zürich}]", '1:26: an identity has 1 to 16 printable ASCII characters, found "Zürich"'),
                 ("steps: [!!python/name:os.system x]", "1:9: the tag tag:yaml.org,2002:python/name:os.system is not allowed"),
                 ("steps: [", "1:9: not YAML")):
             self.assertTrue(self.error(text).startswith(message), f"{text}\n{self.error(text)}\n{message}")
@@ -118,7 +125,20 @@ steps: [{use: both}, {drive: 150.5 m at 36.5 km/h}, {confirm: running_number}, f
             self.assertIn("1:16: etcs decode finds another telegram: packet 65", self.error(text))
         with patch("gaknifur.program.decode", return_value=["refused 2 WrongLength"]):
             self.assertIn("1:16: etcs decode says of this telegram: refused 2 WrongLength", self.error(text))
+        with patch("gaknifur.program.decode", side_effect=self.decode_speeds):
+            self.assertTrue(self.error(text.replace("V_TSR 4", "V_TSR 121")).endswith(
+                "1:16: etcs decode says of this telegram: refused 4 OutOfRange; packet 65: V_TSR 121 is not allowed, only 0 to 120, 127"))
+        with patch("gaknifur.program.decode", return_value=["refused 4 OutOfRange"]):
+            self.assertTrue(self.error(text).endswith("1:16: etcs decode says of this telegram: refused 4 OutOfRange"))
+        with patch("gaknifur.program.decode", return_value=["refused 2 WrongLength"]):
             self.assertIn("was to be refused with 3 Spare", self.error(f"steps: [{{telegram: {{fields: '{RESTRICTION}', refused: 3 Spare}}}}]"))
+
+    @staticmethod
+    def decode_speeds(digits: str) -> list[str]:
+        """Stands in for `etcs decode` of the restriction, whose last seven bits before the end mark are V_TSR."""
+        bits = f"{int(digits, 16):0{4 * len(digits)}b}"
+        speed = int(bits[114:121], 2)
+        return ["telegram", "packet", "end 129"] if speed <= 120 or speed == 127 else ["refused 4 OutOfRange"]
 
     def test_a_telegram_of_an_installed_track(self) -> None:
         header = "telegram Q_UPDOWN=1 M_VERSION=16 Q_MEDIA=0 N_PIG=0 N_TOTAL=0 M_DUP=0 M_MCOUNT=255 NID_C=1 NID_BG=2 Q_LINK=1"
@@ -262,7 +282,9 @@ class Telegrams(unittest.TestCase):
         for text, message in (("NID_BG 2; 65: NID_TSR 7, L_TSR 50", "packet 65: D_TSR is missing before L_TSR"),
                            ("NID_BG 2; 65: NID_TSR 256, D_TSR 1, L_TSR 1, Q_FRONT 1, V_TSR 4", "NID_TSR has 8 bits, from 0 to 255"),
                            ("NID_BG 2; 66: NID_TSR 7, NID_TSR 8", "packet 66 has no NID_TSR there"),
-                           ("NID_BG 2; 66: NID_TRS 7", "there is no variable NID_TRS; did you mean \"NID_TSR\"?"),
+                           ("NID_BG 2; 66: NID_TRS 7", 'packet 66 has no NID_TRS; did you mean "NID_TSR"\\? known: L_PACKET, NID_TSR, Q_DIR, Q_SCALE$'),
+                           ("NID_BG 2, NID_D 3", 'the header has no NID_D; did you mean "NID_C"\\? known: M_DUP, .*, Q_UPDOWN$'),
+                           ("NID_BG 2; 5: D_LINC 4", 'packet 5 has no D_LINC; did you mean "D_LINK"\\? known: D_LINK, .*, Q_SCALE$'),
                            ("NID_C 2", "the header has no NID_BG"), ("NID_BG 2; V_MAIN 3", "\"V_MAIN 3\" begins with no number of a packet")):
             with self.assertRaisesRegex(telegrams.Wrong, f"^{message}"):
                 telegrams.telegram(text).digits
@@ -294,6 +316,17 @@ class Cases(InFiles):
                 ("{note: x, sections: [9.1], never: {mode: SF}}", "9.1", '"9.1" is not a section of SUBSET-026')):
             message, place = self.error_of(expected), f"8:{5 + expected.index(where)}: "
             self.assertTrue(message.startswith(place + wanted), f"{expected}\n{message}\n{place}{wanted}")
+
+    def test_each_document_s_first_fault(self) -> None:
+        wrong = CASE + "  - {note: x, never: {}}\n  - {note: x}\n"
+        good = CASE + "  - {note: x, never: {mode: SF}}\n"
+        with self.assertRaises(AllFailed) as found:
+            cases.read(self.write("---\n".join((wrong, good, wrong))))
+        self.assertEqual([one.removeprefix(f"{self.path}:").partition(" ")[0] for one in found.exception.messages()], ["8:22:", "27:22:"])
+        errors = io.StringIO()
+        with contextlib.redirect_stderr(errors):
+            self.assertEqual(main(["lint", str(self.path)]), REFUSED)
+        self.assertEqual([line.startswith(f"lab: {self.path}:") for line in errors.getvalue().splitlines()], [True, True])
 
     def test_a_case_without_results(self) -> None:
         self.assertIn("nothing is expected", self.error(CASE.replace("expected:\n", ""), True))

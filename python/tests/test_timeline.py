@@ -15,7 +15,6 @@ from gaknifur.evidence.times import Times
 from gaknifur.files import Out
 from gaknifur.journal import tables, workbook
 from gaknifur.journal.reading import Journal
-from gaknifur.program import Failed
 
 from .samples import InFolder, action, journal, reading, record
 
@@ -56,10 +55,6 @@ class Timelines(Room):
         sample.times = None
         self.assertEqual((timeline.as_csv(sample)[0].count("\n"), timeline.as_csv(sample)[1]), (1, 9))
 
-    def test_lab_knows_its_own(self) -> None:
-        for data in (timeline.as_csv(self.sample())[0].encode(), timeline.as_json(self.sample()).encode()):
-            self.assertTrue(files.TIMELINE.is_own(data))
-
 
 class Workbooks(Room):
     """Tables as workbooks."""
@@ -67,8 +62,8 @@ class Workbooks(Room):
     def test_numbers_are_numbers_and_texts_are_texts(self) -> None:
         table = tables.written(tables.frame(self.sample()))
         path = self.room / "out.xlsx"
-        files.write(Out(path, files.WORKBOOK), workbook.workbook(table, ["=note", "sha256 ab"]))
-        files.write(Out(path, files.WORKBOOK, True), workbook.workbook(table, ["=note", "sha256 ab"]))
+        files.write(Out(path), workbook.workbook(table, ["=note", "sha256 ab"]))
+        files.write(Out(path, True), workbook.workbook(table, ["=note", "sha256 ab"]))
         book = openpyxl.load_workbook(path)
         rows = list(book["events"].iter_rows())
         at = {cell.value: place for place, cell in enumerate(rows[0])}
@@ -106,14 +101,6 @@ class Workbooks(Room):
     def test_a_control_character_is_refused(self) -> None:
         with self.assertRaises(openpyxl.utils.exceptions.IllegalCharacterError):
             workbook.workbook(pd.DataFrame({"text": ["a\x1b"]}), [])
-
-    def test_no_other_workbook_is_written_over(self) -> None:
-        path, book = self.room / "other.xlsx", openpyxl.Workbook()
-        book.save(path)
-        before = path.read_bytes()
-        with self.assertRaisesRegex(Failed, "is not a workbook that lab made"):
-            files.write(Out(path, files.WORKBOOK, True), workbook.workbook(pd.DataFrame(), []))
-        self.assertEqual(path.read_bytes(), before)
 
 
 if __name__ == "__main__":

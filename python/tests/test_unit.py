@@ -320,6 +320,32 @@ class Calls(OverTheLibrary):
                         unit.flush()
             self.assertEqual(path.read_bytes(), memory.data)
 
+    def test_a_format_keeps_a_journal(self) -> None:
+        """Only `wipe` empties it; a file is kept also where it is no journal, or a bit of its first sector is altered."""
+        with tempfile.TemporaryDirectory() as folder:
+            path, memory, empty = Path(folder) / "image", MemoryMedium.formatted(4), MemoryMedium.formatted(4).data
+            with FileMedium.formatted(path, 4) as medium, Unit(medium) as unit:
+                unit.clock(1)
+                unit.flush()
+            with Unit(memory) as unit:
+                unit.clock(1)
+                unit.flush()
+            self.assertRaises(FileExistsError, units.format_medium, memory, 4)
+            altered = bytes([path.read_bytes()[0] ^ 1]) + path.read_bytes()[1:]
+            for content in (path.read_bytes(), altered, b"a text"):
+                path.write_bytes(content)
+                self.assertRaises(FileExistsError, FileMedium.formatted, path, 4)
+                self.assertEqual(path.read_bytes(), content)
+            for content in (b"", bytes(600)):
+                path.write_bytes(content)
+                FileMedium.formatted(path, 4).close()
+                self.assertEqual(path.read_bytes(), empty)
+            path.write_bytes(memory.data)
+            FileMedium.formatted(path, 4, wipe=True).close()
+            self.assertEqual(path.read_bytes(), empty)
+            units.format_medium(memory, 4, wipe=True)
+            self.assertEqual(list(units.records(memory.read())), [])
+
     def test_a_file_is_settled(self) -> None:
         """It is synced, and the system's copies are dropped, before it is read; the folder of a new one is synced."""
         calls: list[str] = []

@@ -204,13 +204,13 @@ class Sets(unittest.TestCase):
 class Names(unittest.TestCase):
     """What a name says that `lab` can't write."""
 
-    def test_of_parquet(self) -> None:
-        with tempfile.TemporaryDirectory() as room:
-            out = Path(room) / "out.parquet"
-            with contextlib.redirect_stderr(io.StringIO()) as errors:
+    def test_of_a_table(self) -> None:
+        for name in ("out.parquet", "out.ods", "out.xls"):
+            with tempfile.TemporaryDirectory() as room, contextlib.redirect_stderr(io.StringIO()) as errors:
+                out = Path(room) / name
                 self.assertEqual(main(["table", "image", str(out)]), 2)
-            self.assertIn("Parquet isn't supported", errors.getvalue())
-            self.assertFalse(out.exists())
+                self.assertEqual(errors.getvalue(), f"lab: {out}: the name has to end in .csv or .xlsx\n")
+                self.assertFalse(out.exists())
 
 
 CHECKED = "\n".join(map(json.dumps, (journal().examination, {"end": "nothing_differs"}, {"check": {"whole": True, "replay": "nothing_differs"}})))
@@ -303,8 +303,14 @@ class Suites(InFolder):
                          ["one", "one/image", "one/report.html", "two_of_a_kind", "two_of_a_kind/image", "two_of_a_kind/report.html"])
         self.assertEqual((kept / "one/image").read_bytes(), b"the image")
         self.assertIn("<h1>Journal", (kept / "one/report.html").read_text())
-        status, output = self.lab("--keep", str(kept))
-        self.assertEqual((status, "already exists and isn't an empty folder" in output), (2, True))
+
+    def test_a_folder_that_exists_is_not_filled(self) -> None:
+        (self.room / "kept").mkdir()
+        (self.room / "file").touch()
+        for name in ("kept", "file"):
+            status, output = self.lab("--keep", str(self.room / name))
+            self.assertEqual((status, f"{name}: already exists; name a new folder" in output), (2, True))
+        self.assertEqual(list((self.room / "kept").iterdir()), [])
 
     def sample(self, path: Path) -> Any:
         """The journal of the stand-in."""
@@ -316,10 +322,10 @@ class Suites(InFolder):
         self.assertEqual(self.lab("--reached", str(out), "-k", "comes")[0], 0)
         self.assertEqual(measured_coverage.read(out), {name: {"power-up words": ["unknown"]} for name in ("one", "two of a/kind")})
         status, output = self.lab("--reached", str(out))
-        self.assertEqual((status, "--force overwrites what lab made" in output), (1, True))
-        self.assertEqual(self.lab("--reached", str(out), "--force", "-k", "comes")[0], 0)
+        self.assertEqual((status, "--force overwrites it" in output), (1, True))
         out.write_text("mine")
-        self.assertIn("is not what cases reach that lab made", self.lab("--reached", str(out), "--force")[1])
+        self.assertEqual(self.lab("--reached", str(out), "--force", "-k", "comes")[0], 0)
+        self.assertEqual(len(measured_coverage.read(out)), 2)
 
     def test_what_comes_is_not_kept(self) -> None:
         kept = self.room / "kept"

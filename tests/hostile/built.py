@@ -79,6 +79,26 @@ def calls_of(to):
     return calls
 
 
+class Releases:
+    """What a life has released by its calls so far: of the lines that it prints at its end one for each record of a block whose gate is synced, but for
+    its power-up's."""
+
+    def __init__(self, text):
+        self.lines, self.blocks, self.records, self.is_gate = text.splitlines(keepends=True), [], 0, False
+
+    def note(self, kind, body):
+        """Takes one call more."""
+        if kind == "w":
+            self.records = body[28] if body.startswith(b"ETCSHED") else self.records
+            self.is_gate = body.startswith(b"ETCSGATE")
+        elif kind == "s" and self.is_gate:
+            self.blocks.append(self.records)
+            self.is_gate = False
+
+    def text(self):
+        return "".join(self.lines[:sum(self.blocks[1:])])
+
+
 def sectors_of(place, body):
     """The sectors of a write, each with its bytes; the program writes whole sectors."""
     return {(place + k) // SECTOR: body[k:k + SECTOR] for k in range(0, len(body), SECTOR)}

@@ -3,7 +3,7 @@
 them, or within it, may leave (each sector since the last sync old, new, 512 bytes of 0xFF, or torn), and takes each of them up again.
 
 What each image must list is known without reading its blocks: the plain program says what each block holds, the recorded calls which block
-was synced after each gate, and the image which gates are open. The listing is just that, it has all that was printed before the cut, and
+was synced after each gate, and the image which gates are open. The listing is just that, it has all that was released before the cut, and
 the next life and the listing after it are those of the plain program after the same blocks.
 """
 import json
@@ -11,7 +11,7 @@ import random
 import sys
 from pathlib import Path
 
-from built import ENTRIES, FULL_SUPERVISION, SECTOR, STAFF_RESPONSIBLE, built, formatted, run_program, recorded_by, room, sectors_of
+from built import ENTRIES, FULL_SUPERVISION, SECTOR, STAFF_RESPONSIBLE, Releases, built, formatted, run_program, recorded_by, room, sectors_of
 from compared import Compared
 from program import Image, listed
 
@@ -62,25 +62,25 @@ class Ring:
         return first, newest
 
 
-def cuts(before, recorded, ring, numbers):
-    """Each image that a cut may leave, with the numbers of its first and its last block, and with what was printed by then."""
-    settled, written, printed = bytearray(before), {}, ""
+def cuts(before, recorded, text, ring, numbers):
+    """Each image that a cut may leave, with the numbers of its first and its last block, and with what was released by then."""
+    settled, written, releases = bytearray(before), {}, Releases(text)
     seen = set()
     for kind, place, body in [*recorded, ("end", 0, b"")]:
         if kind == "w":
             for sector, data in sectors_of(place, body).items():
                 written.setdefault(sector, []).append(data)
+        released = releases.text()
         for image in images(settled, written, numbers):
-            if (image, printed) not in seen:
-                seen.add((image, printed))
-                yield image, ring.run_in(image), printed
+            if (image, released) not in seen:
+                seen.add((image, released))
+                yield image, ring.run_in(image), released
+        releases.note(kind, body)
         if kind == "s":
             ring.sync(written)
             for sector, handed in written.items():
                 settled[sector * SECTOR:(sector + 1) * SECTOR] = handed[-1]
             written = {}
-        if kind == "o":
-            printed += body.decode()
 
 
 def up_to(plain, newest):
@@ -108,18 +108,18 @@ def cut_run(name, scenario, slots, lives, folder, record, failures, numbers):
         run_program(["run", folder / "scenario", image])
         plain.run(scenario)
     before, ring = image.read_bytes(), Ring(slots, len(plain.blocks))
-    _, recorded = recorded_by(record, image, ["run", folder / "scenario", image])
+    (_, text), recorded = recorded_by(record, image, ["run", folder / "scenario", image])
     whole, undisturbed = image.read_bytes(), text_of(plain.run(scenario)[0])
     count, settled = 0, None
-    for data, (first, newest), printed in cuts(before, recorded, ring, numbers):
+    for data, (first, newest), released in cuts(before, recorded, text, ring, numbers):
         count, settled, said = count + 1, data, f"{name}, cut {count + 1}"
         image.write_bytes(data)
         listing = text_of(listed(number, record) for number in range(first, newest + 1) for record in plain.blocks[number - 1])
         failures.unless(run_program(["journal", image]) == (0, listing), f"{said}: the listing isn't that of the blocks {first} to {newest}")
         found = up_to(plain, newest)
-        released = printed.splitlines()
-        is_there = undisturbed.startswith(printed) and (not released or int(released[-1].split()[1]) < found.events)
-        failures.unless(is_there, f"{said}: what was printed isn't in the blocks up to {newest}")
+        last = released.splitlines()[-1:]
+        is_there = undisturbed.startswith(released) and (not last or int(last[0].split()[1]) < found.events)
+        failures.unless(is_there, f"{said}: what was released isn't in the blocks up to {newest}")
         lines, status = found.run(NEXT)
         answer = run_program(["run", folder / "next", image])
         failures.unless(answer == (status, text_of(lines)), f"{said}: the next life answers {answer} after block {newest}")

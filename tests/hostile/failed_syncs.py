@@ -18,7 +18,7 @@ import sys
 from copy import deepcopy
 from pathlib import Path
 
-from built import ENTRIES, SECTOR, built, formatted, run_program, recorded_by, room, sectors_of, settled
+from built import ENTRIES, SECTOR, Releases, built, formatted, run_program, recorded_by, room, sectors_of, settled
 from compared import Compared
 from cut_files import images
 
@@ -130,10 +130,12 @@ class Tried:
     def life(self, medium, released, is_cut, **environment):
         """One life from what is read. Adds what it releases, and answers whether a sync of it failed."""
         self.image.write_bytes(medium.read)
-        _, calls = recorded_by(self.record, self.image, ["run", self.folder / "scenario", self.image], **environment)
+        (_, text), calls = recorded_by(self.record, self.image, ["run", self.folder / "scenario", self.image], **environment)
+        releases, earlier = Releases(text), len(released)
         for kind, place, body in calls:
             medium.note(kind, place, body)
-            released += released_in(body.decode()) if kind == "o" else []
+            releases.note(kind, body)
+            released[earlier:] = released_in(releases.text())
             if is_cut:
                 self.cuts(medium, released)
         return any(kind == "f" for kind, _, _ in calls)

@@ -4,8 +4,8 @@ plain unit leaves on the plain disk, and its calls were right.
 
 Calls are right where the file is synced before anything is read or written; where there is a sync between any write of a gate and a write of
 the sectors after a gate, and before anything is printed and at the end; and where they are those of the plain unit: between two syncs exactly
-the sectors that the plain disk gets there, with their bytes, and between the same two exactly the outputs that are released there. A format
-syncs the file and its folder before it prints that it is done.
+the sectors that the plain disk gets there, with their bytes, and after the last one exactly the lines of the life. A format syncs the file and
+its folder before it prints that it is done.
 
     tests/hostile/lives_in_files.py [LIVES [SEED]]    1,000 lives, seed 2026
 """
@@ -19,7 +19,7 @@ from disk import SECTOR_BYTES, Disk
 from items import Kept
 from journal import first_sector
 from life import Life
-from plain_images import answer_of, bytes_of, kept_on, life_texts
+from plain_images import bytes_of, kept_on, lived
 from random_inputs import Made
 from random_lists import Numbers
 
@@ -142,14 +142,13 @@ def life(name, scenario, disk, folder, record, failures):
     image, path = folder / "image", folder / "scenario"
     path.write_text(json.dumps(scenario))
     disk.story = Story()
-    for text in life_texts(disk, scenario):
-        disk.story.print(text)
-    wanted = answer_of("".join(part for part in disk.story.parts if isinstance(part, str)))
+    wanted = lived(disk, scenario)
+    disk.story.print(wanted[1])
     found, recorded = recorded_by(record, image, ["run", path, image])
     failures.unless(found == wanted, f"{name}: printed {found}\n  wanted {wanted}")
     wrong = list(wrong_calls(recorded))
     failures.unless(not wrong, f"{name}: {', '.join(wrong[:3])}")
-    failures.unless(story_of(recorded).parts == disk.story.parts, f"{name}: between two syncs other sectors are written, or other lines are printed")
+    failures.unless(story_of(recorded).parts == disk.story.parts, f"{name}: between two syncs other sectors are written, or a line is printed before the end")
     failures.unless(image.read_bytes() == bytes_of(disk), f"{name}: the file holds other bytes")
     return len(recorded)
 

@@ -1,9 +1,8 @@
 #!/usr/bin/env python3
 """Refuses the program's requests for memory, each in turn, until a run gets no refusal. A refused run says so, by one line in
 place of what it had no memory for, and ends with status 1; what it printed before is what the undisturbed run prints, and the image
-holds every event that it printed. After some requests, one after another, a run of a scenario does all as the undisturbed one: those of
-the reader that reads a scenario in one pass, in whose place the other reader reads it (`crates/simulator`). A series without a
-refusal fails: each run allocates memory at least for its arguments, so there the refusing doesn't work.
+holds every event that it printed. A scenario that there was no memory to read changes no image. A series without a refusal fails: each
+run allocates memory at least for its arguments, so there the refusing doesn't work.
 
     tests/hostile/refused_memory.py [FILE ..]    over the rows below, and over these scenarios
 """
@@ -15,12 +14,10 @@ from pathlib import Path
 from built import AUTHORITY, FULL_SUPERVISION, RESTRICTION, STAFF_RESPONSIBLE, built, formatted, run_program, room
 from compared import Compared
 
-# What a run without memory says: words, decoding, a scenario, an opening, a step, a listing.
-SAYS = ("refused memory", "refused 5 NoMemory", "stopped 4 NoMemory", "stopped 12 NoMemory", "refused 34 NoMemory")
+# What a run without memory says: words and decoding, a scenario, a step, a listing. An opening takes none.
+UNREAD = "refused 5 NoMemory"
+SAYS = ("refused memory", UNREAD, "stopped 12 NoMemory", "refused 34 NoMemory")
 MOST = 1_000_000
-# The requests of the reader in one pass, at most: one for the text's escapes, and some for each list that grows, for each action and each
-# telegram.
-MOST_OF_READER = 20
 
 
 def is_refusal(status, text, undisturbed):
@@ -50,7 +47,8 @@ def series(name, words, folder, refuse, failures, image=None):
     if image:
         shutil.copy(image, kept)
     undisturbed = run_program(words)
-    count, of_reader = 0, []
+    failures.unless(not set(SAYS) & set(undisturbed[1].splitlines()), f"{name}: undisturbed {undisturbed[1][-200:]!r}")
+    count, unread = 0, 0
     for at in range(1, MOST):
         said.unlink(missing_ok=True)
         if image:
@@ -60,18 +58,17 @@ def series(name, words, folder, refuse, failures, image=None):
             failures.unless((status, text) == undisturbed, f"{name}: with all memory {status} {text!r}")
             break
         count += 1
-        if words[0] == "run" and (status, text) == undisturbed and of_reader in ([], list(range(at - len(of_reader), at))):
-            of_reader.append(at)
-        else:
-            failures.unless(is_refusal(status, text, undisturbed[1]), f"{name}, request {at}: {status} {text[-200:]!r}")
+        failures.unless(is_refusal(status, text, undisturbed[1]), f"{name}, request {at}: {status} {text[-200:]!r}")
+        if text == f"{UNREAD}\n":
+            unread += 1
+            failures.unless(image.read_bytes() == kept.read_bytes(), f"{name}, request {at}: the image is changed by a scenario that wasn't read")
         if image:
             failures.unless(found(image, text), f"{name}, request {at}: what was printed isn't in the journal")
             again = run_program(words)
             failures.unless(again[0] == undisturbed[0], f"{name}, request {at}: the next run ends with {again[0]}")
     failures.unless(count, f"{name}: no request was refused")
-    failures.unless(count > len(of_reader), f"{name}: no refusal was reported")
-    failures.unless(len(of_reader) <= MOST_OF_READER, f"{name}: {len(of_reader)} requests are of the reader in one pass")
-    print(f"{name}: {count} requests refused, {len(of_reader)} of them of the reader in one pass")
+    failures.unless(unread or words[0] != "run", f"{name}: no request of the reader was refused")
+    print(f"{name}: {count} requests refused, {unread} of them as the scenario was read")
     return count
 
 

@@ -248,7 +248,7 @@ def parts(rows):
             rows.same(f"{name}, {extent.text()}: at most three records before it are read", len(wanted) == 0 or (journal.is_part and lead == journal.lead <= 3), True)
             count += journal.is_part
     rows.same("parts that are read without the rest", count > 35, True)
-    rows.page("trip", "--life", "1", "--to", "9", charts=1, text=["Only this part was read", "life 1, events 0 to 9; at its end"])
+    rows.page("trip", "--life", "1", "--to", "9", charts=1, text=["The examination and the replay are of all of it. Only this part was read", "life 1, events 0 to 9; at its end"])
     rows.page("byte", "--from", "9", "--to", "12", charts=1, said="lab: byte: something is lost, damaged or contradicts", text=["a part of it: from 9 to 12"])
     (rows.room / "marked").write_bytes((rows.room / "trip").read_bytes())
     marks = rows.room / "marked.times"

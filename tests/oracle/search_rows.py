@@ -17,10 +17,11 @@ from pathlib import Path
 
 TOP = Path(__file__).resolve().parents[2]
 sys.path.insert(0, str(TOP / "python"))
+from gaknifur.journal.wording import MODES  # noqa: E402
 from gaknifur.testing import case_runner, cases, mode_table, properties, search, strategies  # noqa: E402
 
 EXAMPLES, SEED, MOST_STEPS, FEW, LEAST_ALTERED = 200, 1, 12, 3, 20
-LAW_EXAMPLES, LEAST_RECORDS = 200, 2_500
+LAW_EXAMPLES, LEAST_RECORDS, LEAST_OF_MODE = 200, 2_500, 100
 WRONG, LAWS = TOP / "tests/oracle/wrong.search.yaml", TOP / "suites/safety_laws.search.yaml"
 OTHERS = {"mode": ["FS", "SR", "UN", "PT", "TR"], "brake": ["none", "service"], "kind": ["clock"],
           "action": ["close_desk"],
@@ -76,6 +77,8 @@ class Rows:
             judged = started.found.judged
             self.is_so(started.of.note, started.first is None, started.first)
             self.is_so(started.of.note, judged > 0 or started.of.unjudged is not None, "no record was judged")
+        few = {mode: records.modes[mode] for mode in MODES if mode != "SF" and records.modes[mode] < LEAST_OF_MODE}
+        self.is_so("records by mode", not few, few)
         recorded = list(records.kept.values())
         count = sum(map(len, recorded))
         self.is_so("records", count >= LEAST_RECORDS, f"{count} records")

@@ -7,6 +7,7 @@ UNIT is examples/oracle/unit.c, compiled, STANDS least.c. These, examples/oracle
 journals of the examples. Each kind of tests/oracle/wrong.py replays one of them, in which a train is tripped and power
 is lost, and has to be reported with the text in FOUND. None of their processes may be left.
 """
+import io
 import os
 import shlex
 import subprocess
@@ -21,7 +22,7 @@ TOP = Path(__file__).resolve().parents[2]
 sys.path.insert(0, str(TOP / "python"))
 from gaknifur import program  # noqa: E402
 from gaknifur.journal.reading import read  # noqa: E402
-from gaknifur.units import oracle, sandbox  # noqa: E402
+from gaknifur.units import oracle, own_unit, protocol, sandbox  # noqa: E402
 from gaknifur.units.other_unit import OtherUnit  # noqa: E402
 
 WITHIN_S, HANGS_S, LEAST = 60.0, 8.0, 30
@@ -117,6 +118,39 @@ def tested(unit):
     return done.returncode == 4 and named == [command] * 5 and all(one in said for one in wanted), said
 
 
+EVENTS = ({"kind": "powerup", "word": "moved"}, {"kind": "telegram", "telegram": "00"}, {"kind": "clock", "now_ms": 0},
+          {"kind": "odometer", "movement_cm": 0, "speed_m_per_h": 0}, {"kind": "driver", "action": "start"},
+          *({"kind": "driver", "action": action} | dict(members) for action, members in (
+              ("enter_identity", {"identity": "a"}), ("enter_running_number", {"running_number": 1}), ("choose_level", {"chosen_level": 1}),
+              ("enter_train_data", dict.fromkeys(protocol.DONE["enter_train_data"], 1)), ("confirm", {"confirmed": "level"}),
+              ("acknowledge", {"acknowledged": "trip"}))))
+
+
+def served(message):
+    """The message of `lab serve` for the third line, which follows a greeting and a power-up; None if it is answered."""
+    lines = [protocol.line_of(one).encode() for one in ({"protocol": 1}, {"life": 1, "event": 0} | EVENTS[0])]
+    try:
+        own_unit.serve(io.BytesIO(b"".join([*lines, message])), io.BytesIO())
+    except program.Failed as failed:
+        return str(failed)
+    return None
+
+
+def answered_wrongly():
+    """The malformed lines to which `lab serve` doesn't answer with a message, and what becomes of each."""
+    wrong = [protocol.line_of({"life": 1, "event": 1} | event | {name: value}).encode()
+             for event in EVENTS for name in ("life", "event", *event) for value in (None, True, 1.5, [], {}, "\ud800", 1 << 64)]
+    found = []
+    for message in (*wrong, b'{"kind": "clock", "life": 1, "event": 1, "now_ms": 1' + b" " * protocol.MOST_LINE + b"}\n"):
+        try:
+            said = served(message)
+        except Exception as error:
+            said = repr(error)
+        if not (said or "").startswith("serve: line 3: "):
+            found.append((message[:100], said))
+    return found
+
+
 def left():
     """The units that still have running processes, a moment later."""
     for _ in range(50):
@@ -152,6 +186,7 @@ def main(etcs, lab, unit, stands):
         is_so("lab test against unit.py", *tested(TOP / "examples/oracle/unit.py"))
         said, agrees = compared(f"{shlex.quote(str(TOP / 'lab'))} serve", found["power_cut"], WITHIN_S)
         is_so("lab serve", agrees, said)
+        is_so("lab serve, malformed lines", not answered_wrongly(), answered_wrongly())
         proxy = f"{shlex.quote(str(TOP / 'tests/oracle/wrong.py'))} {{}} {shlex.quote(unit)}"
         is_so("right", compared(proxy.format("right"), found["trip"], WITHIN_S)[1])
 

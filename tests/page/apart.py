@@ -175,8 +175,12 @@ def by_fields(browser: Browser, _page: Path, folder: Path) -> int:
     assert browser.run("return [...document.querySelectorAll('#telegram-form [aria-invalid]')].map(one => one.getAttribute('aria-label'))") == [
         "V_MAIN, 12: Level 1 Movement Authority"]
     before = browser.run_later(ALTER, ["V_MAIN", 0], "24")[0]
-    for text, says in (("128", "V_MAIN has 7 bits"), ("x", "\"x\" is no number"), ("", "\"\" is no number")):
+    marked = "return [...document.querySelectorAll('#telegram-form [aria-invalid=true]')].map(one => [one.getAttribute('aria-label'), one.value])"
+    for text, says in (("128", "V_MAIN has 7 bits"), ("x", "V_MAIN: \"x\" is no number"), ("", "V_MAIN: \"\" is no number"), ("0x10", "V_MAIN: \"0x10\" is no number")):
         assert browser.run_later(ALTER, ["V_MAIN", 0], text)[0] == before and says in browser.text("telegram-form"), text
+        assert browser.run(marked) == [["V_MAIN, 12: Level 1 Movement Authority", text]], (text, browser.run(marked))
+    browser.run_later(ALTER, ["V_MAIN", 0], "24")
+    assert browser.run(marked) == [] and "is no number" not in browser.text("telegram-form")
     assert "skips packet 72" in browser.run_later(ADD, 72)[1] and "The unit skips this packet." in browser.text("telegram-form")
     digits = browser.run_later(ALTER, ["L_TEXT", 0], "2")[0]
     browser.run_later(ALTER, ["X_TEXT", 0], "72")

@@ -181,7 +181,7 @@ def case(browser: Browser, page: Path, folder: Path) -> int:
     findings = browser.ask(path)
     assert findings["digest"] == hashlib.sha256(data).hexdigest() == "ee636b1dfea516705c04c8235a93cf1eb4f86594fcdce11bc49e9be9cd547df3"
     assert "Event 24 of life 3, block 6: moved 100.00 m, at 15.0 km/h" in browser.text("event-said")
-    assert "emergency brake; limit 0.0 km/h, front at 300.00 m ± 20.00 m" in browser.text("ask-texts")
+    assert "emergency brake; limit 0.0 km/h, front 300.00 m ± 20.00 m" in browser.text("ask-texts")
     fields = browser.run("return [...document.querySelectorAll('#fields tr')].map(row => [...row.cells].map(cell => cell.textContent))")
     assert ["speed", "15.0 km/h", "3,380, 4 B"] in fields and ["event", "24", "3,336, 8 B"] in fields
     shown = browser.run("document.querySelectorAll('#fields tbody tr')[6].click();"
@@ -198,7 +198,7 @@ def case(browser: Browser, page: Path, folder: Path) -> int:
     assert "was overwritten" in lives and "are missing before" in lives
     assert browser.text("ask-causes").startswith("The cause is unknown")
     browser.run("window.gaknifur.ask.chooseEvent(12)")
-    assert "is in no block" in browser.text("event-said")
+    assert "is in no block" in browser.text("event-error")
     browser.run("location.hash = '#event=9'")
     browser.until("return document.getElementById('ask-causes').textContent.includes('has not revalidated')")
     return 15

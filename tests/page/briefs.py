@@ -74,10 +74,10 @@ def by_hand(browser: Browser, _page: Path, folder: Path) -> int:
     path.write_bytes(image(folder, [example("power_cut"), example("power_cut", "restart.json"), example("trip")], 16))
     browser.ask(path)
     rows = browser.run(OUTPUT)[3]
-    for says in ("emergency brake, life 3, events 24 to 28, from event 24: at 300.00 m, at 15.0 km/h (limit 0.0 km/h)", "above the limit by more than 10 km/h",
+    for says in ("emergency brake, life 3, events 24 to 28, from event 24: place 300.00 m, speed 15.0 km/h, limit 0.0 km/h", "above the limit by more than 10 km/h",
                  "above the limit by more than 5 km/h", "the mode is Trip", "past the end of authority (4.6.3)", "end of authority: 0.0 km/h at 300.00 m"):
         assert says in rows["Last intervention"], (says, rows["Last intervention"])
-    assert rows["Trips"].startswith("life 3, event 26, at ") and rows["Power-ups"].startswith("3; after each"), rows
+    assert rows["Trips"].startswith("life 3, event 26, place ") and rows["Power-ups"].startswith("3; after each"), rows
     assert rows["Released"].startswith("the outputs of life 3 after its power-up, up to event 24, had left the unit; not known: the outputs of block"), rows
     assert browser.run("return document.querySelectorAll('#interventions tbody tr').length") == 1
     assert browser.text("event-said").startswith("Event 24 of life 3")

@@ -99,7 +99,7 @@ class Browser:
         self.hand(path, "file", *others)
         self.until("const a = window.gaknifur.ask; return a.id > window.before && (document.getElementById('answers').hidden"
                    " ? document.getElementById('ask-error').textContent !== '' : a.isDone)", seconds)
-        return dict(self.run("return JSON.parse(JSON.stringify(window.gaknifur.ask.findings))"))
+        return dict(self.run("return JSON.parse(JSON.stringify(window.gaknifur.ask.findings, (_, one) => typeof one === 'bigint' ? Number(one) : one))"))
 
     def image(self) -> bytes:
         """The image of the desk."""

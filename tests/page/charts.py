@@ -164,7 +164,7 @@ def moves(browser: Browser, _page: Path, folder: Path) -> int:
     assert browser.run("const { ask } = window.gaknifur; return ask.viewer.layers[0].axis.x[ask.index] === ask.viewer.layers[0].axis.x[arguments[0]]", index)
     browser.run("window.gaknifur.ask.chooseEvent(24)")
     said = browser.text("viewer-at")
-    assert said == ("At the cursor: speed 15.0 km/h; limit, which is the permitted speed, 0.0 km/h; emergency brake; Full Supervision; level 1; front at 300.00 m;"
+    assert said == ("At the cursor: speed 15.0 km/h; limit, which is the permitted speed, 0.0 km/h; emergency brake; Full Supervision; level 1; front 300.00 m;"
                     " moment 0 s."), said
     browser.run("const { viewer } = window.gaknifur.ask; viewer.zoom(0.05, viewer.layers[0].axis.low)")
     browser.run("window.gaknifur.ask.choose(window.gaknifur.ask.records.count - 1)")

@@ -20,7 +20,9 @@ import briefs  # noqa: E402
 import charts  # noqa: E402
 import days  # noqa: E402
 import desks  # noqa: E402
+import entered  # noqa: E402
 import first  # noqa: E402
+import forged  # noqa: E402
 import guarded  # noqa: E402
 import handing  # noqa: E402
 import implausible  # noqa: E402
@@ -31,8 +33,8 @@ import quick  # noqa: E402
 import several  # noqa: E402
 from browsing import Browser  # noqa: E402
 
-CHECKS = {**desks.CHECKS, **own.CHECKS, **apart.CHECKS, **asking.CHECKS, **days.CHECKS, **briefs.CHECKS, **braked.CHECKS, **first.CHECKS, **charts.CHECKS, **manners.CHECKS, **guarded.CHECKS, **implausible.CHECKS, **handing.CHECKS, **paper.CHECKS, **several.CHECKS, **quick.CHECKS}
-ALL = CHECKS | braked.LONG | quick.LONG
+CHECKS = {**desks.CHECKS, **own.CHECKS, **apart.CHECKS, **asking.CHECKS, **days.CHECKS, **briefs.CHECKS, **braked.CHECKS, **first.CHECKS, **entered.CHECKS, **forged.CHECKS, **charts.CHECKS, **manners.CHECKS, **guarded.CHECKS, **implausible.CHECKS, **handing.CHECKS, **paper.CHECKS, **several.CHECKS, **quick.CHECKS}
+ALL = CHECKS | braked.LONG | forged.LONG_CHECKS | quick.LONG
 CHROMIUM_ALONE = ("edited",)
 
 

@@ -9,6 +9,7 @@ from typing import Any
 from asking import example, image
 from browsing import Browser
 from desks import random_steps
+from gaknifur.escaping import shown
 from gaknifur.evidence import times
 from gaknifur.journal import reading
 from gaknifur.program import Failed
@@ -99,7 +100,7 @@ def by_package(journal: reading.Journal, path: Path, drift: int) -> tuple[Any, s
     try:
         journal.times = times.Times.of(journal, path, drift)
     except Failed as failed:
-        return None, str(failed).replace(str(path), path.name) + "."
+        return None, str(failed).replace(str(path), shown(path.name)) + "."
     columns = times.columns(journal)
     utc = [None if one is None else [one, off] for one, off in zip(columns["utc_by_marks"], columns["utc_uncertainty_ms"], strict=True)]
     return {"utc": utc, "faults": journal.times.faults(), "says": journal.times.note()}, ""

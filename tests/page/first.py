@@ -12,9 +12,13 @@ BITS = ((0, 1), (7, 0x80), (9, 1), (100, 4), (15, 1), (13, 0x40))
 """Bytes of the first sector, and what is flipped there: mark, version, zeros, and the number of slots."""
 CUTS = (512 + 12 * 3_072 + 700, 512 + 9 * 3_072 + 2_048)
 """Where an image of 16 slots ends early, within a slot."""
-WRONG = (("length", "abc", "enter-train", "Length in m: a number from 0.01 to 4,095."), ("maximum", "-5", "enter-train", "Greatest speed in km/h: a number from 0.001 to 600."),
-         ("deceleration", "0", "enter-train", "Deceleration in m/s²: a number from 0.01 to 3."), ("reaction", "11", "enter-train", "Reaction in s: a number from 0 to 10."),
-         ("running", "", "enter-running", "Running number: a number from 0 to 99,999,999."), ("running", "100000000", "enter-running", "Running number: a number from 0 to"),
+WRONG = (("length", "abc", "enter-train", "Length in m: a number with up to 2 decimals from 0.01 to 4,095."),
+         ("maximum", "-5", "enter-train", "Greatest speed in km/h: a number with up to 3 decimals from 0.001 to 600."),
+         ("deceleration", "0", "enter-train", "Deceleration in m/s²: a number with up to 2 decimals from 0.01 to 3."),
+         ("reaction", "11", "enter-train", "Reaction in s: a number with up to 3 decimals from 0 to 10."), ("length", "1e2", "enter-train", "Length in m"),
+         ("deceleration", "0.701", "enter-train", "Deceleration in m/s²"), ("maximum", "0x10", "enter-train", "Greatest speed in km/h"),
+         ("running", "", "enter-running", "Running number: a whole number from 0 to 99,999,999."), ("running", "100000000", "enter-running", "Running number: a whole number"),
+         ("running", "1.5", "enter-running", "Running number"), ("running", "0x10", "enter-running", "Running number"),
          ("identity", "", "enter-identity", "The identity has 1 to 16 letters"), ("identity", "Zug ü", "enter-identity", "The identity has 1 to 16 letters"))
 """A field, a wrong entry, the button, and the limits by include/etcs_unit.h, in the unit of the field."""
 
@@ -29,8 +33,11 @@ def steps(browser: Browser, _page: Path, _folder: Path) -> int:
     assert [one for one, _ in grey] == [True, False, True, True, True], grey
     assert grey[0][1] == "The emergency brake is commanded until the four steps are done" and grey[2][1].startswith("Accepted in Shunting; the mode is Stand By"), grey
     classes = "return [0, 1, 2, 3].map(n => document.getElementById('mission-' + n).className)"
+    texts = "return [...document.querySelectorAll('#mission span')].map(one => one.textContent)"
     assert browser.run(classes) == ["owes"] * 4
+    assert browser.run(texts) == ["the identity isn't known yet", "the level isn't valid yet", "the train data aren't known yet", "the mission hasn't begun yet"]
     browser.click("do-all")
+    assert browser.run(texts)[0] == "the identity is known", browser.run(texts)
     assert browser.run(classes) == ["done"] * 4 and browser.text("mode") == "Full Supervision", browser.text("mode")
     grey = browser.run(GREY, ["full", "start", "close", "confirm-1"])
     assert [one for one, _ in grey] == [False, True, False, True], grey
@@ -111,7 +118,8 @@ def cut_off(browser: Browser, _page: Path, folder: Path) -> int:
 def own_words(browser: Browser, _page: Path, folder: Path) -> int:
     """A file that is no scenario is refused in words of the page's own."""
     scenario = json.dumps(example("trip"))
-    for data, says in ((b"\xff\xfe{}", "it isn't text in UTF-8."), (b'{"groups":\n [], }', "this is no JSON"), (scenario[:-1].encode(), "this is no JSON"), (b"", "this is no JSON")):
+    for data, says in ((b"\xff\xfe{}", "it isn't text in UTF-8."), (b'{"groups":\n [], }', "this is no JSON"), (scenario[:-1].encode(), "this is no JSON"), (b"", "this is no JSON"),
+                       (b"[" * 5_000 + b"]" * 5_000, "its lists and objects are nested too deeply" if isinstance(browser, Chromium) else "")):
         path = folder / "bad.json"
         path.write_bytes(data)
         browser.run("document.getElementById('drive-error').textContent = ''")
@@ -120,7 +128,7 @@ def own_words(browser: Browser, _page: Path, folder: Path) -> int:
         error = browser.text("drive-error")
         assert error.startswith(f"bad.json isn't a scenario that etcs run reads: {says}"), error
         assert not any(word in error for word in ("Failed", "execute", "Unexpected", "TextDecoder", "Error")), error
-    return 4
+    return 5
 
 
-CHECKS = {"first_steps": (steps, 12), "entries": (entries, 8), "by_slots": (by_slots, 6), "cut_off": (cut_off, 2), "own_words": (own_words, 4)}
+CHECKS = {"first_steps": (steps, 12), "entries": (entries, 13), "by_slots": (by_slots, 6), "cut_off": (cut_off, 2), "own_words": (own_words, 4)}

@@ -131,7 +131,7 @@ def hostile(browser: Browser, _page: Path, folder: Path) -> int:
     whole = image(folder, [example("trip")], 16)
     wanted = {"empty": (b"", "less than one sector"), "text": (b"Dear investigator,\n" * 400, "isn't the image of a journal"),
               "random": (bytes((n * n * 31 + 7 * n) & 255 for n in range(20000)), "isn't the image of a journal"),
-              "first": (whole[:512], "isn't that of its slots"), "slots": (whole[:12] + b"\xff\xff\xff\xff" + whole[16:], "isn't the image of a journal"),
+              "first": (whole[:512], "ends early"), "slots": (whole[:12] + b"\xff\xff\xff\xff" + whole[16:], "isn't the image of a journal"),
               "<img src=x onerror=alert(1)>": (b"x" * 600, "isn't the image of a journal")}
     for name, (data, says) in wanted.items():
         path = folder / name.replace("/", "_")

@@ -50,7 +50,7 @@ def on_one_axis(browser: Browser, _page: Path, folder: Path) -> int:
     one, other = made(folder)
     browser.ask(one)
     alone = browser.run(SHOWN)
-    assert alone["names"] == [] and alone["lanes"] == 1 and alone["speeds"] == 1 and alone["axes"] == ["Time of each life", "Place"], alone
+    assert alone["names"] == [] and alone["lanes"] == 1 and alone["speeds"] == 1 and alone["axes"] == ["Time of each life", "Place", "Event"], alone
     browser.ask_also(other)
     shown = browser.run(SHOWN)
     assert shown["images"] == ["A: one.bin", "B: other.bin"] and shown["pressed"] == ["B: other.bin"], shown
@@ -102,7 +102,7 @@ def in_utc(browser: Browser, one: Path, other: Path) -> int:
     for path, second in zip(marks, (0, 5)):
         path.write_text(f"{times.FIRST}\n1,0,,2026-03-01T10:00:0{second}.000Z,50,GNSS\n", encoding="utf-8")
     browser.hand(marks[0])
-    browser.until("return document.querySelectorAll('#viewer-axis option').length === 3")
+    browser.until("return document.querySelectorAll('#viewer-axis option').length === 4")
     assert browser.run("return document.getElementById('viewer-axis').value") == "moment"
     browser.hand(marks[1])
     browser.until("return document.getElementById('viewer-axis').value === 'utc'")
@@ -111,7 +111,7 @@ def in_utc(browser: Browser, one: Path, other: Path) -> int:
     assert first["0"] == begun and second["0"] == begun + 5_000 and second[str(len(ENTRIES) + 1)] == begun + 7_000, (first["0"], second)
     shown = browser.run(SHOWN)
     assert shown["ticks"] and all(one.startswith("10:00:") for one in shown["ticks"]) and shown["lives"][0] == "A life 1", shown
-    assert "1 life has no UTC and isn't drawn" in browser.text("viewer-said"), browser.text("viewer-said")
+    assert "no UTC and" in browser.text("viewer-said"), browser.text("viewer-said")
     return 8
 
 

@@ -5,7 +5,7 @@ import blocks
 import rows
 from disk import SECTOR_BYTES, Disk
 from journal import BRAKES, KINDS, MODES, Journal, Refused, first_sector, kept_in, read_block
-from onboard import MOST_PENDING, Unit
+from onboard import Unit
 from row_lines import Group, combined, digest_of, ranged
 
 MODE_NAMES = {number: name for name, number in MODES.items()}
@@ -134,11 +134,7 @@ class Session:
     def do_live(self, cold):
         self.life = cold, []
 
-    def do_run_in(self, room):
-        return self.do_run(int(room))
-
-    def do_run(self, room=None):
-        """The life, into a list that grows, or into one that has room for so many pairs: a flush asks for room for eight first."""
+    def do_run(self):
         (cold, steps), self.life = self.life, None
         pairs, end = [], "done"
         try:
@@ -146,9 +142,6 @@ class Session:
         except Refused as refused:
             return f"{refused}, {pairs_text(pairs)}"
         for number, (word, value) in enumerate(steps):
-            if word == "flush" and room is not None and room - len(pairs) < MOST_PENDING:
-                end = f"step {number} NoMemory"
-                break
             try:
                 pairs += unit.flush() if word == "flush" else unit.accept(word, value) or []
             except Refused as refused:

@@ -24,7 +24,7 @@ from asking import Reply, packed, signed
 NEW = [0]  # equipment that never had power
 KNOWN = [3]  # where the train is, and what is kept
 WAYS = ("step", "apply", "power_up")
-REFUSED = 2  # stands in place of an output
+REFUSED = 2  # stands before what is known, where memory was refused
 
 COLD = {"unknown": 0, "moved": 1, "not-moved": 2}
 ALONE = {"start": 6, "choose-shunting": 7, "leave-shunting": 8, "override": 9, "close-desk": 11}
@@ -94,8 +94,22 @@ def item(word, value):
 
 
 def output(reply):
+    left, text = taken(reply)
+    return text if left is None else "no memory"
+
+
+def taken(reply):
+    """What is known where memory was refused for an event, else None; and the output, or that of the same event again."""
+    left = None
     if reply.take() == REFUSED:
-        return "no memory"
+        left = known(reply)
+        if reply.take() == REFUSED:
+            known(reply)
+            return left, "no memory"
+    return left, shown(reply)
+
+
+def shown(reply):
     mode, level, brake, limit, indications = reply.take(5)
     return f"{MODES[mode]} {LEVELS[level]} {BRAKES[brake]} {limit} {indications}"
 

@@ -22,7 +22,6 @@
     default                  the pair that no flush released
     live unknown             the inputs and flushes after it are a life
     run                      lives it, and says how it ended and all pairs
-    run-in 7                 the same, into a list that has room for so many pairs and doesn't grow
     openings 1000 unknown    so many lives without an event
     settle old new ff zeros @7    power comes back: what each open sector holds, in rising order, old beyond the list;
                              @7 is what sector 7 holds
@@ -47,7 +46,7 @@ KINDS = {1: "powerup", 2: "telegram", 3: "odometer", 4: "clock", 5: "driver"}
 # What is asked with no number, or with numbers alone.
 ALONE = {"flush": 3, "close": 4, "calls": 5, "default": 6, "run": 8, "less": 11, "keep": 12, "again": 13, "blocks": 21,
          "bytes": 24}
-NUMBERED = {"run-in": 9, "format": 10, "cut": 15, "fail": 16, "cut-any": 17, "fail-any": 18}
+NUMBERED = {"format": 10, "cut": 15, "fail": 16, "cut-any": 17, "fail-any": 18}
 
 # Refusals by number.
 OPEN = {0: "opened", 1: "1 DeviceFault", 2: "2 NotFormatted", 3: "3 Damaged", 4: "4 NoMemory", 6: "6 WornOut",
@@ -184,10 +183,6 @@ def lived(reply):
     return f"{ends[kind]()}, {released(reply)}"
 
 
-def lived_in(reply):
-    return done(reply) if len(reply.numbers) == 1 else lived(reply)
-
-
 def after_refusal(text):
     """Reads what follows a 0; another number is a refusal."""
     def read(reply):
@@ -208,7 +203,6 @@ ANSWERED = {
     "calls": lambda reply: CALLS[reply.take()],
     "default": flushed,
     "run": lived,
-    "run-in": lived_in,
     "blocks": after_refusal(run_of_blocks),
     "bytes": after_refusal(lambda reply: f"{reply.take():016x}"),
 }

@@ -14,7 +14,7 @@ and holds only some sectors of its medium.
     memory open 1             whether a sector is open
     memory clock              the number of calls, and `memory faults` how many failed
     file fill 100 3           so many sectors of zeros in an empty file, whose calls do so many bytes at most
-    file over 100             a disk over such a file
+    file over 100 1024        a disk over such a file of so many bytes
     raw new 100 2048          such a file of so many bytes
     raw write 512 64 7        writes so many bytes of this value from an offset on, and answers how many were written
     raw open 1                whether a sector is open
@@ -56,7 +56,7 @@ OWN = {
         "faults": (15, 0),
     },
     "liar": {},
-    "file": {"fill": (8, 2), "over": (9, 1)},
+    "file": {"fill": (8, 2), "over": (9, 2)},
     "raw": {"new": (0, 2), "write": (1, 3), "open": (2, 1), "sync": (3, 0)},
     "window": {
         "new": (8, 1), "wanted": (9, 0), "provide": (10, 2), "seek": (11, 1), "requests": (12, 0), "request": (13, 1),

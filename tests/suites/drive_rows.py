@@ -109,7 +109,7 @@ class Driven(Compared):
                                     (["build", kept], 1, "use lab drive --scenario"),
                                     (["drive", kept, "--image", self.room], 1, "isn't a regular file"),
                                     (["drive", kept, "--image", kept], 1, "is a file that is read here"),
-                                    (["drive", kept, "--image", none], 1, "the unit answers 2 OPEN_NOT_FORMATTED"),
+                                    (["drive", kept, "--image", none], 1, "isn't an image that `lab drive` made"),
                                     (["drive", kept, "--csv", kept, "--force"], 1, "is the input file")):
             found = lab(*words)
             self.same(f"{words}", (found[0], said in found[2]), (status, True))
@@ -130,6 +130,7 @@ class Driven(Compared):
         """A second life on an image begins after the first one, and is replayed with it."""
         image = self.room / "lives"
         program.etcs("format", "--", str(image), "1024")
+        (self.room / "lives.identity").write_text("unit: lab drive\n")
         for _ in range(2):
             self.same("a life", lab("drive", DRIVES / "heeds_the_limit.yaml", "--image", image)[0], 0)
         done = subprocess.run([os.environ["GAKNIFUR_ETCS_LAB"], "replay", "--json", image], capture_output=True, text=True)

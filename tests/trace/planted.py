@@ -114,12 +114,17 @@ OUTDATED = (
     "from FS SB (λ c. c.trip)",
     "A, of B, 2026-12-01, **outdated**",
 )
-SOURCES = (  # for the tools that write pages
+SOURCES = (  # for the tools that write pages, tools/unused and tools/public_names
     ("review", "a step whose row isn't there", "docs/review.md.in", "ROW an open track", "ROW an open trak",
      "tests/rows/test_kernel.row has no row 'an open trak'"),
     ("definitions", "a file of definitions without a source", "crates/vars/specs/Meanings.antt", "SUBSET-026", "the standard",
      "crates/vars/specs/Meanings.antt names no source at its head"),
     ("map", "a crate without a README", "crates/vars/README.md", None, None, "crates/vars/README.md has no first sentence"),
+    ("unused", "a trusted library that isn't listed", "docs/explain/promises.md", "`hex`, ", "`hax`, ", "docs/explain/promises.md: trusted are by crates.txt"),
+    ("public_names", "a renamed public call", "crates/braking/src/approach.rt", "pub fn permitted<", "pub fn allowed<",
+     "the code has no function permitted(front, limit, targets, gradient, brakes)"),
+    ("public_names", "parameters in another order", "crates/mode_table/src/statuses.rt", "status_on(item: Item, mode: Mode)",
+     "status_on(mode: Mode, item: Item)", "the code has no function status_on(item, mode); it has ['mode, item']"),
 )
 PAGES = (  # for tools/docs --check
     ("a dead link", "docs/README.md", "(start/c.md)", "(start/d.md)", "docs/README.md: there is no docs/start/d.md"),

@@ -7,9 +7,8 @@ found with its bound.
 
 A row fails where it takes more than 3 in 100 more or less than tests/unit/counts.txt keeps: keep a cheaper count, and look into
 a dearer one. A bound fails where more is taken. Counts go by the place of the stack, and by what else is in the library, so nearer
-ones can't be asked for. The stack of each call, by the frames in the object code, has a bound too.
+ones can't be asked for.
 """
-import re
 import sys
 from pathlib import Path
 
@@ -19,7 +18,6 @@ KEPT = HERE / "counts.txt"
 sys.dont_write_bytecode = True
 sys.path[:0] = [str(TOP / "bench"), str(TOP / "tests" / "plain")]
 import mixed  # noqa: E402
-import stack_bound  # noqa: E402
 import worst_search  # noqa: E402
 
 # The worst driver's start that was found, and a little more. A reading before 32 restrictions after 690 gradients, announced from the farthest to the
@@ -31,12 +29,6 @@ MOST_ANEW = 72_000
 MOST_TWICE = 140_000
 # A reading with twice the restrictions, or twice the gradients, takes at most twice as much, and a little for the call itself.
 MOST_DOUBLED = 2.05
-# Bytes of stack: of some calls, and of any other one.
-POWER_UPS = ("etcs_unit_begin_", "etcs_unit_provide_")
-MOST_STACK_OF = dict.fromkeys(POWER_UPS, 16_384) | {"etcs_image_why_": 176_128, "etcs_image_replay_": 70_656, "etcs_telegram_unused_": 36_864,
-                                                 **dict.fromkeys(("etcs_unit_preview_telegram_", "etcs_unit_preview_odometer_"), 106_496),
-                                                 **dict.fromkeys(("etcs_image_block_", "etcs_image_record_", "etcs_image_slot_", "etcs_journal_next_"), 24_576)}
-MOST_STACK, LEAST_CALLS = 11_776, 30
 
 
 def rows():
@@ -68,12 +60,6 @@ def counted(scenarios):
     return [took[at, len(lines) + 1][0] for at, lines in enumerate(scenarios, 1)]
 
 
-def stacks(program):
-    """The bytes of stack that each call takes at most, by its name."""
-    functions = stack_bound.functions_of(program)
-    return {name: stack_bound.deepest(functions, name)[0] for name in functions if re.fullmatch("etcs_(unit|opening|image|journal|telegram)_.*_", name)}
-
-
 def main(program, *words):
     worst_search.OUT = Path(program).resolve().parent
     cases = rows()
@@ -97,15 +83,9 @@ def main(program, *words):
               ("a reading before stairs of each kind, the authority's end before them", summed, MOST_READING),
               ("a reading each of whose sums begins anew", anew, MOST_ANEW), ("a reading with two sums and two ways back", twice, MOST_TWICE)]
     faults += [f"{what}: {number} instructions, and {most:.0f} are its bound" for what, number, most in bounds if number > most]
-    taken = stacks(program)
-    most = {name: MOST_STACK_OF.get(name, MOST_STACK) for name in taken}
-    faults += [f"{name}: {number} bytes of stack, and {most[name]} are its bound" for name, number in taken.items() if number > most[name]]
-    if len(taken) < LEAST_CALLS or not set(MOST_STACK_OF) <= set(taken):
-        faults.append(f"the stack of {len(taken)} calls is known: {sorted(taken)}")
     for fault in faults:
         print(fault)
-    print(f"instructions of calls: {len(numbers)} rows compared with kept ones, {len(bounds)} bounds; the stack of {len(taken)} calls, "
-          f"{', '.join(str(taken.get(name)) for name in POWER_UPS)} bytes of a power-up")
+    print(f"instructions of calls: {len(numbers)} rows compared with kept ones, {len(bounds)} bounds")
     return 1 if faults else 0
 
 

@@ -48,6 +48,7 @@ void drops(etcs_unit *unit, etcs_file *file, etcs_unit_output *outputs, uint8_t 
     etcs_file_carry_out(file, unit);
     etcs_file_flush(file, unit, outputs, count);
     etcs_file_format(file, "image", 4);
+    etcs_file_wipe(file, "image", 4);
     etcs_memory_use(bytes, 8192);
     etcs_file_open_medium(file, "image", number);
     etcs_executive_begin(&executive, &equipment, ETCS_COLD_UNKNOWN);

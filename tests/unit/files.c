@@ -110,9 +110,13 @@ static void formats(void) {
     is("a folder that isn't there", etcs_file_format(&file, "none/image", 4), ETCS_FILE_CANT_OPEN);
     is("its number", (uint64_t)file.error, ENOENT);
     is("a device", etcs_file_format(&file, "/dev/null", 4), ETCS_FILE_WRONG_SIZE);
-    writes_left = 2;
-    is("a write that fails", etcs_file_format(&file, "image", 4), ETCS_FILE_CANT_WRITE);
-    is("its number", (uint64_t)file.error, EIO);
+    /* four writes of zeros, a gate for each slot, and the first sector */
+    for (int before = 0; before < 9; before++) {
+        writes_left = before;
+        is("a write that fails", etcs_file_format(&file, "image", 4), ETCS_FILE_CANT_WRITE);
+        is("its number", (uint64_t)file.error, EIO);
+        is("no zeros stay where not all are written", (uint64_t)size_of("image"), before < 4 ? 0 : 12800);
+    }
     writes_left = -1;
     fails_sync = EIO;
     is("a sync that fails", etcs_file_format(&file, "image", 4), ETCS_FILE_CANT_SYNC);
@@ -120,6 +124,83 @@ static void formats(void) {
     is("4 slots", etcs_file_format(&file, "image", 4), ETCS_FILE_OK);
     is("its bytes", (uint64_t)size_of("image"), 12800);
     is("no file is open", (uint64_t)(int64_t)file.descriptor, (uint64_t)-1);
+}
+
+/* The bytes of a file, for the caller to free. */
+static uint8_t *bytes_in(const char *path, size_t *len) {
+    const int from = open(path, O_RDONLY);
+    *len = (size_t)size_of(path);
+    uint8_t *bytes = (uint8_t *)calloc(1, *len + 1);
+    is("its bytes are read", read(from, bytes, *len) == (ssize_t)*len, 1);
+    close(from);
+    return bytes;
+}
+
+/* Writes these bytes at the beginning of a file, which is made where there is none. */
+static void puts_first(const char *path, const void *bytes, size_t len) {
+    const int to = open(path, O_WRONLY | O_CREAT, 0666);
+    is("they are written", write(to, bytes, len) == (ssize_t)len, 1);
+    close(to);
+}
+
+/* A format that changes nothing of a file, whatever its slots. */
+static void leaves(const char *path) {
+    etcs_file file = {0};
+    size_t before, after;
+    uint8_t *const bytes = bytes_in(path, &before);
+    is("a format", etcs_file_format(&file, path, 4), ETCS_FILE_NOT_EMPTY);
+    is("no number", (uint64_t)file.error, 0);
+    is("of another size", etcs_file_format(&file, path, 8), ETCS_FILE_NOT_EMPTY);
+    is("no file is open", (uint64_t)(int64_t)file.descriptor, (uint64_t)-1);
+    uint8_t *const found = bytes_in(path, &after);
+    is("the same bytes", before == after && memcmp(bytes, found, before) == 0, 1);
+    free(bytes);
+    free(found);
+}
+
+/* The number of the first event after the next power-up of a file: 1 of an empty journal. */
+static uint64_t next_event(const char *path) {
+    etcs_file file = {0};
+    etcs_unit unit = {0};
+    is("open", etcs_file_open(&file, path, &unit, ETCS_COLD_UNKNOWN), ETCS_FILE_OK);
+    is("power-up", etcs_file_flush(&file, &unit, outputs, &count), ETCS_FILE_OK);
+    is("an input", etcs_unit_clock(&unit, 1), ETCS_UNIT_OK);
+    is("flush", etcs_file_flush(&file, &unit, outputs, &count), ETCS_FILE_OK);
+    is("close", etcs_file_close(&file, &unit), ETCS_FILE_OK);
+    return outputs[0].event;
+}
+
+/* A format makes a journal where there is none, and loses nothing: a journal goes on, also one whose first sector has a bit altered, and a text stays.
+ * Only a wipe empties them. */
+static void keeps(void) {
+    static const uint8_t none[ETCS_UNIT_SECTOR] = {0};
+    etcs_file file = {0};
+    size_t len;
+    is("format", etcs_file_format(&file, "held", 4), ETCS_FILE_OK);
+    is("its first event", next_event("held"), 1);
+    leaves("held");
+    is("it goes on", next_event("held"), 3);
+    uint8_t *const bytes = bytes_in("held", &len);
+    bytes[0] ^= 0x40;
+    puts_first("held", bytes, 1);
+    leaves("held");
+    bytes[0] ^= 0x40;
+    puts_first("held", bytes, 1);
+    is("mended, it goes on", next_event("held"), 5);
+    free(bytes);
+    puts_first("letter", "a", 1);
+    leaves("letter");
+    is("a wipe", etcs_file_wipe(&file, "held", 8), ETCS_FILE_OK);
+    is("its bytes", (uint64_t)size_of("held"), 25088);
+    is("the first event", next_event("held"), 1);
+    is("a wipe of a text", etcs_file_wipe(&file, "letter", 2), ETCS_FILE_OK);
+    is("the first event", next_event("letter"), 1);
+    puts_first("held", none, sizeof none);
+    is("a format where power was lost in one", etcs_file_format(&file, "held", 4), ETCS_FILE_OK);
+    is("the first event", next_event("held"), 1);
+    puts_first("empty", none, 0);
+    is("a format of an empty file", etcs_file_format(&file, "empty", 2), ETCS_FILE_OK);
+    is("the first event", next_event("empty"), 1);
 }
 
 static ino_t number_of(const char *path) {
@@ -195,6 +276,8 @@ static void open_already(void) {
     is("its status", other.status, ETCS_UNIT_IS_OPEN);
     is("that file isn't touched", order[0] == 0, 1);
     is("a format of it", etcs_file_format(&file, "new", 4), ETCS_FILE_UNIT);
+    is("its status", file.status, ETCS_UNIT_IS_OPEN);
+    is("a wipe of it", etcs_file_wipe(&file, "new", 4), ETCS_FILE_UNIT);
     is("its status", file.status, ETCS_UNIT_IS_OPEN);
     is("the same descriptor", (uint64_t)file.descriptor, (uint64_t)descriptor);
     is("the lock is held", etcs_file_open(&other, "image", &second, 0), ETCS_FILE_LOCKED);
@@ -296,6 +379,7 @@ static void opens(void) {
     is("a second unit on it", etcs_file_open(&other, "image", &second, 0), ETCS_FILE_LOCKED);
     is("it isn't open", second.is_open, 0);
     is("a format of it", etcs_file_format(&other, "image", 8), ETCS_FILE_LOCKED);
+    is("a wipe of it", etcs_file_wipe(&other, "image", 8), ETCS_FILE_LOCKED);
     is("it is as it was", (uint64_t)size_of("image"), 12800);
     is("close what isn't open", etcs_file_close(&other, &second), ETCS_FILE_UNIT);
     is("power-up", etcs_file_flush(&file, &unit, outputs, &count), ETCS_FILE_OK);
@@ -358,16 +442,6 @@ static void fails(int at_sync) {
     is("its status", file.status, ETCS_UNIT_FAILED);
     is("an input", etcs_unit_clock(&unit, 2), ETCS_UNIT_INPUT_FAILED);
     is("close", etcs_file_close(&file, &unit), ETCS_FILE_OK);
-}
-
-/* The bytes of a file, for the caller to free. */
-static uint8_t *bytes_in(const char *path, size_t *len) {
-    const int from = open(path, O_RDONLY);
-    *len = (size_t)size_of(path);
-    uint8_t *bytes = (uint8_t *)calloc(1, *len + 1);
-    is("its bytes are read", read(from, bytes, *len) == (ssize_t)*len, 1);
-    close(from);
-    return bytes;
 }
 
 /* Some flushes of a life; the first and the last event, and the file after it, for the caller to free. */
@@ -448,6 +522,7 @@ int main(int words, char **word) {
     if (words != 2 || chdir(word[1]) != 0)
         return 2;
     formats();
+    keeps();
     names();
     with_units();
     reads();

@@ -84,7 +84,7 @@ static int drives(const char *folder, unsigned long cycles, unsigned long every)
     etcs_times times = {0};
     etcs_unit_output last = {0};
     uint64_t count = 0, kept = 0;
-    wants("no image", etcs_file_format(&file, path_in(folder, "image"), 64) == ETCS_FILE_OK
+    wants("no image", etcs_file_wipe(&file, path_in(folder, "image"), 64) == ETCS_FILE_OK
                           && etcs_file_open(&file, path_in(folder, "image"), &unit, ETCS_COLD_UNKNOWN) == ETCS_FILE_OK);
     begin(&file, &unit, &last);
     wants("no archive", etcs_archive_open(&archive, path_in(folder, "archive")) == ETCS_FILE_OK);
@@ -138,7 +138,7 @@ static void answers(const char *folder) {
     uint64_t count = 9;
     wants("an image that isn't open is kept", etcs_archive_keep(&archive, &file, &count) == ETCS_FILE_CANT_READ && count == 0);
     wants("a mark without a file", etcs_times_mark(&times, 0, 0, 0, "a") != ETCS_FILE_OK);
-    wants("no image", etcs_file_format(&file, path_in(folder, "image"), 4) == ETCS_FILE_OK
+    wants("no image", etcs_file_wipe(&file, path_in(folder, "image"), 4) == ETCS_FILE_OK
                       && etcs_file_open(&file, path_in(folder, "image"), &unit, ETCS_COLD_UNKNOWN) == ETCS_FILE_OK);
     begin(&file, &unit, &last);
     put(path_in(folder, "text"), "text of another kind");
@@ -295,7 +295,7 @@ static void damaged(const char *folder) {
     etcs_unit unit = {0};
     etcs_file file = {0};
     etcs_unit_output last = {0};
-    wants("no image", etcs_file_format(&file, path_in(folder, "ring"), RING) == ETCS_FILE_OK
+    wants("no image", etcs_file_wipe(&file, path_in(folder, "ring"), RING) == ETCS_FILE_OK
                       && etcs_file_open(&file, path_in(folder, "ring"), &unit, ETCS_COLD_UNKNOWN) == ETCS_FILE_OK);
     begin(&file, &unit, &last);
     etcs_file_close(&file, &unit);
@@ -370,7 +370,7 @@ static void owed(const char *folder) {
     etcs_unit unit = {0};
     etcs_file file = {0};
     etcs_unit_output last = {0};
-    wants("no image", etcs_file_format(&file, path_in(folder, "image"), 4) == ETCS_FILE_OK
+    wants("no image", etcs_file_wipe(&file, path_in(folder, "image"), 4) == ETCS_FILE_OK
                       && etcs_file_open(&file, path_in(folder, "image"), &unit, ETCS_COLD_UNKNOWN) == ETCS_FILE_OK);
     begin(&file, &unit, &last);
     owed_by_archive(folder, &file);

@@ -142,7 +142,7 @@ int main(int count, char **words) {
     etcs_unit unit = {0};
     etcs_file file = {0};
     if (count == 4 && strcmp(words[1], "format") == 0)
-        return etcs_file_format(&file, words[2], (uint32_t)strtoul(words[3], NULL, 10)) == ETCS_FILE_OK ? DONE : DEVICE;
+        return etcs_file_wipe(&file, words[2], (uint32_t)strtoul(words[3], NULL, 10)) == ETCS_FILE_OK ? DONE : DEVICE;
     if (count != 4 && count != 5)
         return WRONG_WORDS;
     is_slow = strcmp(words[1], "slow") == 0;

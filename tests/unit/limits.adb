@@ -51,6 +51,27 @@ procedure Limits is
    procedure Far is begin Odometer (Our, Movement_Cm (Beyond (10_000)), 1); end Far;
    procedure Category is begin Data (Our, (20_000, 160_000, 70, 0, Beyond (15))); end Category;
    procedure Other_Ring is begin Format (Ram, Slots + 1); end Other_Ring;
+   procedure Other_Wipe is begin Wipe (Ram, Slots + 1); end Other_Wipe;
+
+   --  The number of the first event after the next power-up: 1 of an empty journal.
+   function Next_Event return Natural is
+   begin
+      if Open (Our, Etcs_C.Unknown)'Length > 0 then
+         return 0;
+      end if;
+      Clock (Our, 5);
+      return Event : constant Natural := Natural (Flush (Our) (1).Event) do
+         Close (Our);
+      end return;
+   end Next_Event;
+
+   function Keeps_Journal return Boolean is
+   begin
+      Format (Ram, Slots);
+      return False;
+   exception
+      when Has_Journal => return True;
+   end Keeps_Journal;
 
    procedure Not_Open is new Fails (Moment);
    procedure Is_Earlier is new Fails (Earlier);
@@ -64,6 +85,7 @@ procedure Limits is
    procedure Is_Far is new Fails (Far);
    procedure Has_Category is new Fails (Category);
    procedure Is_Of_Others is new Fails (Other_Ring);
+   procedure Is_Wipe_Of_Others is new Fails (Other_Wipe);
    procedure Is_Unformatted is new Fails (Open_Again);
 
    Two : constant Outputs :=
@@ -71,9 +93,15 @@ procedure Limits is
 begin
    Not_Open ("an input before the power-up");
    Is_Of_Others ("a ring of another size");
+   Is_Wipe_Of_Others ("a wipe of a ring of another size");
    Is_Unformatted ("a power-up on zeros", Is_Answer => True);
    Is_Right ("closed after a refusal", not Is_Open (Our));
    Format (Ram, Slots);
+   Is_Right ("its first event", Next_Event = 1);
+   Is_Right ("a format of a journal", Keeps_Journal);
+   Is_Right ("it goes on", Next_Event = 3);
+   Wipe (Ram, Slots);
+   Is_Right ("its first event after a wipe", Next_Event = 1);
    Is_Right ("a power-up", Open (Our, Etcs_C.Unknown)'Length = 0 and then Is_Open (Our));
    Is_Opened ("a power-up while it is open");
    Is_Empty ("a telegram of no bytes");

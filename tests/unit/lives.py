@@ -5,8 +5,8 @@
 
 Each life is lived on a fast medium, and on a slow one, which takes inputs within a list. All print the same and end with the same status. Their writes
 and syncs of the file are the same, in the same order and with the same bytes, so that power may be lost between any two of them and the file is the
-same. In every second life the medium fails between two requests: the life from C stops there, and has released just what `etcs run` had printed by
-then. Or it stops while sectors are still wanted: then nothing was written. Then both go on from that file.
+same. In every second life the medium fails between two requests: the life from C stops there, and has released just the outputs of the blocks that
+were synced by then. Or it stops while sectors are still wanted: then nothing was written. Then both go on from that file.
 """
 import json
 import os
@@ -18,7 +18,7 @@ from pathlib import Path
 TOP = Path(__file__).resolve().parents[2]
 sys.path[:0] = [str(TOP / "tests/hostile"), str(TOP / "tests/plain"), str(TOP / "python")]
 
-from built import PROGRAM, built, calls_of, room  # noqa: E402
+from built import PROGRAM, Releases, built, calls_of, room  # noqa: E402
 from compared import Compared  # noqa: E402
 from gaknifur.simulation import random_lives  # noqa: E402
 from program import inputs_of  # noqa: E402
@@ -69,18 +69,14 @@ def slots_of(numbers):
 
 
 def recorded(record, image, words, text=""):
-    """Status and text of a run, and its writes, syncs, drops of pages and prints in their order."""
+    """Status and text of a run, and its writes, syncs and drops of pages in their order."""
     calls_file = image.with_suffix(".calls")
     calls_file.unlink(missing_ok=True)
     env = dict(os.environ, LD_PRELOAD=record, RECORD_OF=str(image), RECORD_TO=str(calls_file))
     ran = subprocess.run(list(map(str, words)), input=text, capture_output=True, env=env, text=True, timeout=60)
     if ran.stderr:
         raise SystemExit(f"{words}: {ran.stderr[:200]}")
-    return ran.returncode, ran.stdout, [call for call in calls_of(calls_file) if call[0] in "wsdo"]
-
-
-def requests_of(calls):
-    return [call for call in calls if call[0] != "o"]
+    return ran.returncode, ran.stdout, [call for call in calls_of(calls_file) if call[0] in "wsd"]
 
 
 def after_settling(calls):
@@ -90,19 +86,14 @@ def after_settling(calls):
     return calls[2:]
 
 
-def cut_off(before, calls, count):
-    """The bytes of the file after so many requests, and what is printed by then."""
-    held, printed = bytearray(before), b""
+def cut_off(before, calls, printed):
+    """The bytes of the file after these requests, and what is released by then."""
+    held, releases = bytearray(before), Releases(printed)
     for kind, place, body in calls:
-        if kind == "o":
-            printed += body
-            continue
-        if count == 0:
-            break
-        count -= 1
+        releases.note(kind, body)
         if kind == "w":
             held[place:place + len(body)] = body
-    return bytes(held), printed.decode()
+    return bytes(held), releases.text()
 
 
 class Pair:
@@ -132,23 +123,24 @@ class Pair:
         for speed in SPEEDS:
             words = [self.life, speed, self.other, scenario.get("cold", 0)]
             if numbers.randrange(2):
-                self.cut(f"{name}, {speed}", before, calls, words, text, numbers)
+                self.cut(f"{name}, {speed}", before, (printed, calls), words, text, numbers)
             if numbers.randrange(4) == 0:
                 self.stop(f"{name}, {speed}", before, words, text, numbers)
             self.other.write_bytes(before)
             found = recorded(self.record, self.other, words, text)
             self.failures.unless(found[:2] == (status, printed), f"{name}, {speed}: from C {found[0]} {found[1][:400]}, wanted {status} {printed[:400]}")
-            self.failures.unless(requests_of(after_settling(found[2])) == requests_of(calls), f"{name}, {speed}: from C the file is handed other calls")
+            self.failures.unless(after_settling(found[2]) == calls, f"{name}, {speed}: from C the file is handed other calls")
             self.same(f"{name}, {speed}")
-        self.calls += len(requests_of(calls))
+        self.calls += len(calls)
         self.lines += printed.count("\n")
 
-    def cut(self, name, before, calls, words, text, numbers):
-        """The life stops between two requests."""
-        count = numbers.randrange(len(requests_of(calls)))
+    def cut(self, name, before, whole, words, text, numbers):
+        """The life stops between two requests; `whole` is what `etcs run` prints and requests."""
+        text_of_whole, calls = whole
+        count = numbers.randrange(len(calls))
         self.other.write_bytes(before)
         status, printed, _ = recorded(self.record, self.other, [*words, count], text)
-        held, wanted = cut_off(before, calls, count)
+        held, wanted = cut_off(before, calls[:count], text_of_whole)
         self.failures.unless(self.other.read_bytes() == held, f"{name}, cut after {count}: the file holds other bytes")
         self.failures.unless((status, printed) == (1, wanted + "stopped 21 ?\n"), f"{name}, cut after {count}: {status} {printed}, wanted {wanted}")
         self.cuts += 1
@@ -167,10 +159,10 @@ class Pair:
         """A life that is cut off, from which both go on."""
         before = self.one.read_bytes()
         self.path.write_text(json.dumps(scenario))
-        _, _, calls = recorded(self.record, self.one, [PROGRAM, "run", self.path, self.one])
+        _, *whole = recorded(self.record, self.one, [PROGRAM, "run", self.path, self.one])
         text = "".join(word_of(asked) + "\n" for asked in inputs_of(scenario))
         self.other.write_bytes(before)
-        self.cut(name, before, calls, [self.life, numbers.choice(SPEEDS), self.other, scenario.get("cold", 0)], text, numbers)
+        self.cut(name, before, whole, [self.life, numbers.choice(SPEEDS), self.other, scenario.get("cold", 0)], text, numbers)
         self.one.write_bytes(self.other.read_bytes())
 
 

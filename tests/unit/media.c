@@ -355,15 +355,21 @@ static void refuses(void) {
 }
 
 /* Flashes set up with blocks of so many bytes, whose erasures take so many, and whose places begin anew after so many; and each of the calls of a
- * check fails. */
+ * check fails. A flash with a journal stays as it is. */
 static void checks_blocks(void) {
     static const uint64_t flashes[][4] = {
         {SMALL, SMALL, BYTES, ETCS_NOR_OK}, {LARGE, LARGE, BYTES, ETCS_NOR_OK}, {SMALL, LARGE, BYTES, ETCS_NOR_ERASED_MORE},
         {SMALL, 4 * SMALL, BYTES, ETCS_NOR_ERASED_MORE}, {SMALL, SMALL / 2, BYTES, ETCS_NOR_ERASED_LESS}, {SMALL * 3 / 2, SMALL, BYTES, ETCS_NOR_ERASED_LESS},
         {LARGE, SMALL, BYTES, ETCS_NOR_ERASED_LESS}, {SMALL, SMALL, 2 * SMALL, ETCS_NOR_ERASED_MORE}, {LARGE, LARGE, 3 * LARGE, ETCS_NOR_ERASED_MORE}};
+    static uint8_t before[BYTES];
     uint32_t fault = ETCS_NOR_FAILED, call;
+    formats();
+    memcpy(before, cells, BYTES);
+    is("a flash with a journal", etcs_nor_check_blocks(&nor), ETCS_NOR_HAS_JOURNAL);
+    is("it is as it was", (uint64_t)memcmp(before, cells, BYTES), 0);
     for (unsigned i = 0; i < sizeof flashes / sizeof flashes[0]; i++) {
         formats();
+        memset(cells, 0, 8); /* no journal's mark */
         nor.block_bytes = flashes[i][0], granule = flashes[i][1], whole = flashes[i][2];
         is("a flash is checked", etcs_nor_check_blocks(&nor), flashes[i][3]);
         granule = nor.block_bytes = on->block, whole = BYTES;

@@ -166,13 +166,31 @@ static void version(void) {
     is("version, nowhere to count", etcs_version(out, sizeof out, NULL), wanted);
     is("version, no room", etcs_version(out, 0, &len), ETCS_UNIT_NO_ROOM);
     is("version, room for 4", etcs_version(out, 4, &len), ETCS_UNIT_NO_ROOM);
+    is("version, room without its end", etcs_version(out, 5, &len), ETCS_UNIT_NO_ROOM);
     is("a refusal writes nothing", out[0] == 0xAA && out[4] == 0xAA && len == 77, 1);
-    is("version, just its room", etcs_version(out, 5, &len), ETCS_UNIT_OK);
+    is("version, just its room", etcs_version(out, 6, &len), ETCS_UNIT_OK);
     is("its length", len, 5);
-    is("its first byte", out[0], '0');
-    is("nothing after it", out[5], 0xAA);
+    is("its text", (uint64_t)memcmp(out, "0.1.0", 6), 0);
+    is("nothing after it", out[6], 0xAA);
     is("version", etcs_version(out, sizeof out, &len), ETCS_UNIT_OK);
     is("its length", len, 5);
+}
+
+/* What the headers say of limits and of the version, by hand. */
+static void numbers(void) {
+    const uint64_t found[] = {ETCS_TELEGRAM_BYTES, ETCS_MOVEMENT_CM_MOST, ETCS_SPEED_M_PER_H_MOST, ETCS_MOMENT_MS_MOST, ETCS_IDENTITY_BYTES, ETCS_IDENTITY_FIRST,
+                              ETCS_IDENTITY_LAST, ETCS_RUNNING_NUMBER_MOST, ETCS_LENGTH_CM_MOST, ETCS_DECELERATION_CM_PER_S2_MOST, ETCS_REACTION_MS_MOST,
+                              ETCS_CATEGORY_NONE};
+    const uint64_t wanted[] = {104, 10000, 600000, UINT64_C(1099511627775), 16, ' ', '~', 99999999, 409500, 300, 10000, 15};
+    for (size_t i = 0; i < sizeof wanted / sizeof wanted[0]; i++)
+        is("a limit of the headers", found[i], wanted[i]);
+    uint8_t out[ETCS_VERSION_BYTES];
+    unsigned major = 0, minor = 0, patch = 0;
+    uint32_t len = 0;
+    is("the library's version", etcs_version(out, sizeof out, &len), ETCS_UNIT_OK);
+    is("is that of the headers", strcmp((const char *)out, ETCS_VERSION) == 0, 1);
+    is("has three numbers", (uint64_t)sscanf(ETCS_VERSION, "%u.%u.%u", &major, &minor, &patch), 3);
+    is("as one number", ETCS_VERSION_NUMBER, 1000000 * major + 1000 * minor + patch);
 }
 
 /* So is the description of the build. */
@@ -186,15 +204,16 @@ static void build(void) {
     is("build, no room", etcs_build_info(out, 15, &len), ETCS_UNIT_NO_ROOM);
     is("a refusal writes nothing", out[0] == 0xAA && out[14] == 0xAA && len == 77, 1);
     is("build", etcs_build_info(out, sizeof out, &len), ETCS_UNIT_OK);
-    is("what it begins with", memcmp(out, "Gaknifur 0.1.0, ", 16) == 0 && len > 16 && len <= sizeof out, 1);
-    is("nothing after it", len == sizeof out || out[len] == 0xAA, 1);
-    const uint32_t exact = len;
+    is("what it begins with", memcmp(out, "Gaknifur 0.1.0, ", 16) == 0 && len > 16 && len < sizeof out, 1);
+    is("its end", len < sizeof out && out[len] == 0, 1);
+    is("nothing after it", len + 1 >= sizeof out || out[len + 1] == 0xAA, 1);
+    const uint32_t exact = len + 1;
     len = 77;
     memset(out, 0xAA, sizeof out);
     is("build, room for one less", etcs_build_info(out, exact - 1, &len), ETCS_UNIT_NO_ROOM);
     is("a refusal writes nothing", out[0] == 0xAA && len == 77, 1);
     is("build, just its room", etcs_build_info(out, exact, &len), ETCS_UNIT_OK);
-    is("its length", len, exact);
+    is("its length", len, exact - 1);
 }
 
 /* An opening that is refused leaves the unit as it was. */
@@ -567,6 +586,23 @@ static void relaying(medium *on) {
     is("close", etcs_unit_close(&unit), ETCS_UNIT_OK);
 }
 
+/* After a failure the requests of the list go on to be answered, and mean nothing: nothing is released. */
+static void failing_within(medium *on) {
+    etcs_unit unit = {0};
+    is("power-up", powered_up(on, &unit, 0), ETCS_UNIT_OK);
+    is("an input", etcs_unit_clock(&unit, 1), ETCS_UNIT_OK);
+    is("prepare", etcs_unit_prepare(&unit), ETCS_UNIT_OK);
+    is("the medium failed", etcs_unit_fail(&unit), ETCS_UNIT_OK);
+    uint32_t requests = 0;
+    for (; etcs_unit_request(&unit, &request, bytes, sizeof bytes) == ETCS_UNIT_OK && requests < 100; requests++)
+        is("a request after a failure", request.kind == ETCS_REQUEST_READ ? etcs_unit_provide(&unit, request.sector, on->bytes + request.sector * ETCS_UNIT_SECTOR,
+           ETCS_UNIT_SECTOR) : etcs_unit_done(&unit), ETCS_UNIT_OK);
+    is("there are some", requests > 0 && requests < 100, 1);
+    is("the end of the list", etcs_unit_request(&unit, &request, bytes, sizeof bytes), ETCS_UNIT_NO_SUCH_REQUEST);
+    is("its release", etcs_unit_release(&unit, outputs, 8, &count), ETCS_UNIT_FAILED);
+    is("close", etcs_unit_close(&unit), ETCS_UNIT_OK);
+}
+
 static void failing(medium *on) {
     etcs_unit unit = {0};
     is("power-up", powered_up(on, &unit, 0), ETCS_UNIT_OK);
@@ -666,6 +702,7 @@ int main(void) {
     kinds();
     null_pointers(&on);
     version();
+    numbers();
     build();
     etcs_unit unit = {0};
     not_open(&unit);
@@ -675,6 +712,7 @@ int main(void) {
     reading();
     limits(&on);
     relaying(&on);
+    failing_within(&on);
     failing(&on);
     formatting();
     free(on.bytes);

@@ -6,6 +6,7 @@ from pathlib import Path
 from gaknifur.program import DEVICE, Failed
 from gaknifur.yaml_files import document
 from tracing.output import PARTS, table, wrapped
+from tracing.sources import tool
 
 SOURCE, PAGE, PICTURE = Path("docs/assurance.yaml"), Path("out/docs/assurance.md"), Path("out/docs/assurance.svg")
 CLAIM = ("says", "short", "argument")
@@ -34,7 +35,8 @@ class Case:
     def __init__(self, reader):
         members = document(SOURCE).members(("claims", "tools"))
         self.reader, self.faults, self.claims = reader, [], {}
-        self.tools = [{key: text(one) for key, one in tool.members(TOOL).items()} for tool in members["tools"].elements()]
+        kit = libraries()
+        self.tools = [{key: text(one).replace("KIT", kit) for key, one in it.members(TOOL).items()} for it in members["tools"].elements()]
         known = {it.identity: it for it in (*reader.requirements, *reader.laws)}
         names = members["claims"].entries()
         for name, at in names.items():
@@ -69,6 +71,12 @@ def is_held(claim):
 def text(at):
     """A text on one line."""
     return " ".join(at.text().split())
+
+
+def libraries():
+    """The libraries of the kit that the crates use, as a text."""
+    unused = tool("unused")
+    return ", ".join(unused.kit(unused.crates(Path("crates.txt").read_text(encoding="utf-8"))))
 
 
 def each(its, key):
@@ -135,7 +143,7 @@ def page(case):
         "qualified.\n",
     )
     heads = ("Tool", "Class", "Does", "Trusted is", "If it were wrong", "What would show it")
-    yield from table(heads, ([tool[key] for key in TOOL] for tool in case.tools))
+    yield from table(heads, ([it[key] for key in TOOL] for it in case.tools))
 
 
 # ---- the picture

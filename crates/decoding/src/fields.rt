@@ -5,8 +5,7 @@ ghost use Rattle.decoding.specs.Fields.{header_fields, packet_fields};
 
 use arrayvec::ArrayVec;
 use bits::{Run, VariableName};
-use packet_coding::hand_packet;
-use packets::{FieldSink, Packet};
+use packets::{FieldSink, Packet, hand_packet};
 use std::convert::Infallible;
 use telegram::Header;
 

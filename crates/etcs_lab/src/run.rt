@@ -3,7 +3,7 @@
 use crate::status::{Status, no_memory, unread_for, unwritten};
 use lab_why::{LateError, PlayedLife, play};
 use line_sinks::JsonLines;
-use simulator::{Scenario, ScenarioFault, ends_of, plan_of};
+use simulator::{Scenario, ScenarioFault, ends_of, events_of};
 use std::alloc::Global;
 use std::fs;
 use std::fs::File;
@@ -12,7 +12,7 @@ use std::rt::Files;
 
 // The life that a scenario asks for, or its first fault.
 fn life_of(alloc: Global, scenario: &Scenario) -> Result<PlayedLife, ScenarioFault> {
-    let (cold, steps) = plan_of(alloc, scenario)?;
+    let (cold, steps) = events_of(alloc, scenario)?;
     let ends = ends_of(alloc, scenario)?;
     Ok(PlayedLife { cold, steps, ends })
 }

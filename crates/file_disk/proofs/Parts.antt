@@ -5,7 +5,7 @@ use Rattle.std.proofs.lemmas.Bool.{cases_lt}
 use Rattle.std.proofs.lemmas.Result.{on_ok_weaker}
 use Rattle.std.proofs.lemmas.List.{take_at, drop-drop, drop-take, drop-append-le, take-append-le, take-take, length-take-le}
 use Rattle.std.proofs.lemmas.Slice.{take-put_mid}
-use Rattle.std.proofs.lemmas.List.{length-replicate}
+use Rattle.std.proofs.lemmas.List.{length-replicate, take-replicate, drop-replicate, replicate-append-replicate}
 use Rattle.std.proofs.Math.Seq.{take-nil, take-add, take-append-add, drop-append-add}
 use borrow.Rule.Slice.PartMut.{put_mid}
 use Rattle.disk.specs.State.{now, contents_of, Outside, Holds, AreOpen, sector_of, HoldsZeros}
@@ -193,10 +193,27 @@ filled size =
     (λ i. take-nil size i ++ replicate (all i) 0)
 
 -- a file that was emptied and then made longer holds zeros
-pub zeros_filled : (file empty full : List ℕ) (sectors size : ℕ) → empty ≡ resized file 0 → full ≡ resized empty size → size ≡ 512 * sectors → HoldsZeros sectors (λ s. sector_of full s)
+pub zeros_filled : (file empty full : List ℕ) (sectors size : ℕ) → empty ≡ resized file 0 → full ≡ resized empty size → size ≡ 512 * sectors → full ≡ replicate (512 * sectors) 0
 zeros_filled file empty full sectors size one two whole =
-    let zeros : full ≡ replicate (512 * sectors) 0 = two ∙ ap (λ (l : List ℕ). resized l size) (one ∙ emptied file) ∙ filled size ∙ ap (λ (n : ℕ). replicate n 0) whole in
-    record {
-      zeros = λ s below. zeros_at full sectors s zeros below;
-      others = λ s past. sector_past full sectors s (ap length zeros ∙ length-replicate (512 * sectors) 0) past;
-    }
+    two ∙ ap (λ (l : List ℕ). resized l size) (one ∙ emptied file) ∙ filled size ∙ ap (λ (n : ℕ). replicate n 0) whole
+
+-- the sectors of zeros hold zeros, and there are no others
+pub zeros_held : (full : List ℕ) (sectors : ℕ) → full ≡ replicate (512 * sectors) 0 → HoldsZeros sectors (λ s. sector_of full s)
+zeros_held full sectors zeros = record {
+  zeros = λ s below. zeros_at full sectors s zeros below;
+  others = λ s past. sector_past full sectors s (ap length zeros ∙ length-replicate (512 * sectors) 0) past;
+}
+
+-- zeros that are written over zeros leave zeros
+pub zeros_over_zeros : (file with : List ℕ) (at count size : ℕ) → file ≡ replicate size 0 → with ≡ replicate count 0 → at + count ≤ size
+    → overwritten file at with ≡ replicate size 0
+zeros_over_zeros file with at count size zeros these within =
+    let width : length with ≡ count = ap length these ∙ length-replicate count 0 in
+    let front : take at file ≡ replicate at 0 = ap (λ (l : List ℕ). take at l) zeros ∙ take-replicate at size 0 (omega arith) in
+    let end : drop (at + length with) file ≡ replicate (size - (at + count)) 0 =
+    (λ i. drop (at + width i) (zeros i)) ∙ drop-replicate (at + count) size 0 in
+    let whole : at + count + (size - (at + count)) ≡ size = omega arith in
+    (λ i. front i ++ these i ++ end i)
+    ∙ ap (λ (l : List ℕ). l ++ replicate (size - (at + count)) 0) (replicate-append-replicate at count 0)
+    ∙ replicate-append-replicate (at + count) (size - (at + count)) 0
+    ∙ ap (λ (n : ℕ). replicate n 0) whole

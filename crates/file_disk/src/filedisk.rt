@@ -5,7 +5,7 @@ ghost use Rattle.file_disk.specs.Files.{bytes_of, disk_over, whole_disk};
 
 use crate::readonly::opened_to_read;
 use crate::syncing::sync_folder;
-use crate::whole::{read_all, write_all};
+use crate::whole::{read_all, write_all, write_zeros};
 use crate::{RawFile, ReadOnlyFile};
 use disk::{Disk, DiskFault, SECTOR_BYTES, WriteDisk};
 use std::fs::{File, OpenOptions};
@@ -32,12 +32,12 @@ pub struct FileDisk<F: RawFile = File> {
 
 impl FileDisk {
     /// Makes the file, or empties the one that is there, and fills it with so many sectors of zeros; a block device of
-    /// just so many sectors stays as it is. The zeros are a hole in the file, and take no time: that the device has no
-    /// space left shows at a write. The folder is synced too, so that the name of a new file survives a loss of power.
+    /// just so many sectors stays as it is. The zeros are written, so that no later write lacks space on the device. The
+    /// folder is synced too, so that the name of a new file survives a loss of power.
     ///
     /// The file is locked for this handle alone before it is touched, until the disk is dropped. DiskFault where it
-    /// can't be made or locked, where another handle holds a lock on it, where its folder can't be synced, and before
-    /// it is touched where no file has so many bytes.
+    /// can't be made or locked, where another handle holds a lock on it, where the device has no space for it, where its
+    /// folder can't be synced, and before it is touched where no file has so many bytes.
     pub fn create<R: Files<File = File> + AllocGlobal>(
         rt: &R,
         path: &str,
@@ -166,6 +166,7 @@ impl<F: RawFile + Drop> FileDisk<F> {
         let mut file = file;
         file.set_length(0)?;
         file.set_length(sectors * SECTOR_BYTES as u64)?;
+        write_zeros(&mut file, sectors)?;
         file.sync()?;
         Ok(FileDisk {
             file,

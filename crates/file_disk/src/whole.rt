@@ -1,10 +1,13 @@
 //! Calls on whole sectors of a file.
-ghost use Rattle.std.specs.Prelude.{◌≡◌, ◌+◌, ◌*◌, ◌^◌, ◌<◌, ◌≤◌, length, take, drop, IsTrue, OnOk};
+ghost use Rattle.std.specs.Prelude.{◌≡◌, ◌+◌, ◌*◌, ◌^◌, ◌<◌, ◌≤◌, length, take, drop, replicate, IsTrue, OnOk};
 ghost use Rattle.disk.specs.State.{AreOpen};
 ghost use Rattle.file_disk.specs.Files.{bytes_of, whole_disk, overwritten, WritesOnly};
 
 use crate::RawFile;
 use disk::{DiskFault, SECTOR_BYTES};
+
+// How many sectors of zeros one call writes at most.
+const SECTORS_A_CALL: u64 = 16;
 
 /// Reads from a sector on until all bytes are read. DiskFault where a read fails, or the file ends before. The caller
 /// owes an end below 2^64 bytes.
@@ -44,6 +47,24 @@ pub fn write_all<F: RawFile>(file: &mut F, first: u64, bytes: &[u8]) -> Result<(
         if count == 0 {
             return Err(DiskFault); // It takes no more.
         }
+        done += count;
+    }
+    Ok(())
+}
+
+/// Writes zeros over so many sectors, from the first one on, so that the file system has space for them. It stops at the
+/// first DiskFault. The caller owes fewer than 2^54 sectors.
+pub(crate) fn write_zeros<F: RawFile>(file: &mut F, sectors: u64) -> Result<(), DiskFault>
+    requires { sectors < 2 ^ 54 }
+    ensures honest { (F.state file.new).honest ≡ (F.state file.old).honest }
+    ensures zeros { IsTrue (F.state file.old).honest → bytes_of (F.state file.old) ≡ replicate (512 * sectors) 0 →
+        OnOk result (bytes_of (F.state file.new) ≡ replicate (512 * sectors) 0) }
+{
+    let zeros = [0; SECTORS_A_CALL as usize * SECTOR_BYTES];
+    let mut done: u64 = 0;
+    while done < sectors {
+        let count = (sectors - done).min(SECTORS_A_CALL);
+        write_all(file, done, &zeros[..count as usize * SECTOR_BYTES])?;
         done += count;
     }
     Ok(())

@@ -7,7 +7,7 @@ use line_sinks::{level_number, write_ascii};
 use mode_table::{Cold, TrainLevel};
 use packet_uses::Fate;
 use serde::Serializer;
-use std::fmt;
+use telegram_objects::HexText;
 use track_packets::kind_of;
 
 pub(crate) fn write_source<S: Serializer>(
@@ -29,24 +29,11 @@ pub(crate) fn write_cold<S: Serializer>(cold: &Cold, out: &mut S) -> Result<(), 
     out.str(cold_name(*cold))
 }
 
-// Bytes in hexadecimal digits.
-#[derive(Clone, Copy)]
-struct HexText<'a>(&'a [u8]);
-
-impl fmt::Display for HexText<'_> {
-    fn fmt<W: fmt::Write>(&self, f: &mut fmt::Formatter<W>) -> fmt::Result {
-        for byte in self.0 {
-            write!(f, "{byte:02x}")?;
-        }
-        Ok(())
-    }
-}
-
 pub(crate) fn write_bytes<S: Serializer>(
     bytes: &TelegramBytes,
     out: &mut S,
 ) -> Result<(), S::Error> {
-    out.collect_str(&HexText(bytes.as_slice()))
+    out.collect_str(&HexText::lower(bytes.as_slice()))
 }
 
 pub(crate) fn write_identity<S: Serializer>(

@@ -12,7 +12,7 @@ use std::fs::File;
 use std::io::{Read, Write};
 use std::rt::Files;
 use std::{fs, io};
-use telegram_objects::{Decoded, ObjectFault, Reason, bytes_of_text, decoded_of};
+use telegram_objects::{Decoded, HexText, ObjectFault, Reason, bytes_of_text, decoded_of};
 use track_packets::{Fields, PacketPlace, fields_of};
 
 // The bytes of a file, or of standard input.
@@ -29,10 +29,7 @@ fn bytes_in<R: Files<File = File> + Input + AllocGlobal>(
 }
 
 fn write_hex<W: Write>(bytes: &[u8], out: &mut W) -> io::Result<()> {
-    for byte in bytes {
-        write!(out, "{byte:02X}")?;
-    }
-    writeln!(out)
+    writeln!(out, "{}", HexText::upper(bytes))
 }
 
 // Says at which place a telegram has a fault.

@@ -30,17 +30,22 @@ module _ (cold : Cold) (steps : List Step) (place : ℕ) where
   pub all_after : accepted_by (initial cold) steps ≡ accepted_by [] (drop place steps) ++ up_to_here
   all_after = ap (accepted_by (initial cold)) (sym (take-append-drop place steps)) ∙ up_to (initial cold) (take place steps) (drop place steps)
 
-  -- .. and by that step
-  pub one_on : (x d : Step) → place < length steps → x ≡ get_or steps place d → accepted_by (initial cold) (take (place + 1) steps) ≡ accept_one up_to_here x
-  one_on x d below is = fold_more accept_one (initial cold) steps place d below ∙ ap (accept_one up_to_here) (sym is)
+  module _ (slice : List Step) (same : slice ≡ steps) where
+    -- .. and by that step, where the steps are read from a slice
+    pub one_on : (x d : Step) → place < length slice → x ≡ get_or slice place d → accepted_by (initial cold) (take (place + 1) steps) ≡ accept_one up_to_here x
+    one_on x d below is =
+        fold_more accept_one (initial cold) steps place d (subst (λ (l : List Step). place < length l) same below)
+        ∙ ap (accept_one up_to_here) (sym (is ∙ ap (λ (l : List Step). get_or l place d) same))
 
-  pub input_step : (ends : List ℕ) (input : Input) (d : Step) → place < length steps → Accept input ≡ get_or steps place d
-      → slice_index (map (step_at ends) (inputs_from 0 steps)) (length up_to_here - 1) ≡ step_at ends place
-  input_step ends input d below is =
-      let count : length up_to_here ≡ 1 + length (inputs_from 0 (take place steps)) = count_accepted (initial cold) 0 (take place steps) in
-      let number : length up_to_here - 1 ≡ length (inputs_from 0 (take place steps)) = omega (arith, count) in
-      let same : 0 + place ≡ place = omega arith in
-      ap (λ (n : ℕ). slice_index (map (step_at ends) (inputs_from 0 steps)) n) number ∙ its_place (step_at ends) steps place 0 input d below is ∙ ap (step_at ends) same
+    pub input_step : (ends : List ℕ) (input : Input) (d : Step) → place < length slice → Accept input ≡ get_or slice place d
+        → slice_index (map (step_at ends) (inputs_from 0 steps)) (length up_to_here - 1) ≡ step_at ends place
+    input_step ends input d below is =
+        let count : length up_to_here ≡ 1 + length (inputs_from 0 (take place steps)) = count_accepted (initial cold) 0 (take place steps) in
+        let number : length up_to_here - 1 ≡ length (inputs_from 0 (take place steps)) = omega (arith, count) in
+        let from_start : 0 + place ≡ place = omega arith in
+        ap (λ (n : ℕ). slice_index (map (step_at ends) (inputs_from 0 steps)) n) number
+        ∙ its_place (step_at ends) steps place 0 input d (subst (λ (l : List Step). place < length l) same below) (is ∙ ap (λ (l : List Step). get_or l place d) same)
+        ∙ ap (step_at ends) from_start
 
   module _ (durable more : List Event) (released : List Release) (older : accepted_by (initial cold) steps ≡ more ++ durable) (pairs : pairs_of durable ≡ pairs_of (initial cold) ++ released) where
     -- so many were reported as were released: these are all

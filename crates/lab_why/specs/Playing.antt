@@ -33,7 +33,7 @@ inputs_from place (Accept input ∷ steps) = place ∷ inputs_from (place + 1) s
 inputs_from place (Flush ∷ steps) = inputs_from (place + 1) steps
 
 abbrev pub input_steps : PlayedLife → List ℕ
-input_steps life = map (step_at life.ends.items) (inputs_from 0 life.steps)
+input_steps life = map (step_at life.ends.items) (inputs_from 0 life.steps.items)
 
 -- ---- the lines of the outputs
 
@@ -58,7 +58,7 @@ carried_out steps (Some error) = option_map_or (λ number. take number steps) (s
 
 -- the events whose outputs were released, after the power-up
 abbrev pub released_in : PlayedLife → Option LiveError → List Event
-released_in life stopped = durable_by (PowerUp life.cold ∷ []) (carried_out life.steps stopped)
+released_in life stopped = durable_by (PowerUp life.cold ∷ []) (carried_out life.steps.items stopped)
 
 pub record IsPlayed (life : PlayedLife) (stopped : Option LiveError) (lines : List PlayLine) : Type 0 where
   pub outputs : List PlayLine

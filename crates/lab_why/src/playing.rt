@@ -8,13 +8,13 @@ ghost use Rattle.lab_why.specs.declared.played.PlayLine.{PlayLine as a_line};
 
 use crate::played::{PlayLine, first_line, last_line};
 use crate::reporting::report_released;
+use events::Step;
 use line_sinks::LineSink;
 use lives::LateError;
 use mode_table::Cold;
 use onboard::Released;
 use scenario_player::play_first;
 use std::alloc::Global;
-use step_list::StepList;
 use units::NoMemory;
 use whole_lives::LiveError;
 
@@ -27,7 +27,7 @@ pub struct PlayedLife {
     /// What is known of movements without power.
     pub cold: Cold,
     /// The steps of the life.
-    pub steps: StepList,
+    pub steps: Vec<Step>,
     /// Of each step of the scenario, how many steps of the life there are up to its end.
     pub ends: Vec<usize>,
 }
@@ -42,9 +42,9 @@ struct Lived {
 // Runs a life on an empty image.
 fn run_life(alloc: Global, life: &PlayedLife) -> Result<Lived, NoMemory>
     ensures released { IfOk result (λ lived. pairs_of (released_in life.now lived.stopped) ≡ pairs_of (PowerUp life.now.cold ∷ []) ++ lived.released.items) }
-    ensures ends { IfOk result (λ lived. PlayEnds life.now.steps lived.stopped) }
+    ensures ends { IfOk result (λ lived. PlayEnds life.now.steps.items lived.stopped) }
 {
-    let played = play_first(alloc, BLOCKS, life.cold, &life.steps, 0)?;
+    let played = play_first(alloc, BLOCKS, life.cold, life.steps.as_slice(), 0)?;
     Ok(Lived {
         released: played.released,
         stopped: played.ended.err(),
@@ -81,7 +81,7 @@ pub fn play<S: LineSink<PlayLine>>(
         × TakesAll S.Takes lines sink.old sink.new) }
 
     // It stopped at the first step that has a cause to be refused, and only for a cause.
-    ensures ends { IfOk result (λ stopped. PlayEnds life.now.steps stopped) }
+    ensures ends { IfOk result (λ stopped. PlayEnds life.now.steps.items stopped) }
 {
     let Ok(lived) = run_life(alloc, life) else {
         return Err(LateError::NoMemory);

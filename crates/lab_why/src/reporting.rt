@@ -52,18 +52,18 @@ pub(crate) fn report_released<S: LineSink<PlayLine>>(
     sink: &mut S,
 ) -> Result<(), LateError>
     ensures { (durable more : List Event)
-        → accepted_by (PowerUp life.now.cold ∷ []) life.now.steps ≡ more ++ durable
+        → accepted_by (PowerUp life.now.cold ∷ []) life.now.steps.items ≡ more ++ durable
         → pairs_of durable ≡ pairs_of (PowerUp life.now.cold ∷ []) ++ released.now
         → OnOk result ((lines : List a_line) × AreLines (input_steps life.now) durable lines
         × TakesAll S.Takes lines sink.old sink.new) }
 {
-    let steps = &life.steps;
+    let steps = life.steps.as_slice();
     let ends = life.ends.as_slice();
     let (mut reasoning, _) = Reasoning::begin(alloc, &Kept::nothing(), life.cold);
     let mut reported = 0;
     let mut step = 0;
     for place in 0..steps.len() {
-        let Step::Accept(input) = steps.get(place) else {
+        let Step::Accept(input) = &steps[place] else {
             continue;
         };
         if reported == released.len() {
@@ -73,7 +73,7 @@ pub(crate) fn report_released<S: LineSink<PlayLine>>(
         report_one(
             alloc,
             &mut reasoning,
-            input,
+            input.copy(),
             step as u64,
             &released[reported],
             sink,

@@ -2,19 +2,22 @@
 ghost use Rattle.std.specs.Prelude.{◌≡◌};
 ghost use Rattle.onboard.specs.Numbers.{accept_number, accept_name, flush_number, flush_name};
 
-use std::error::Error;
-use std::fmt;
+use thiserror::Error;
 
 /// Why an input wasn't accepted.
-#[derive(Clone, Copy, Debug)]
+#[derive(Clone, Copy, Debug, Error)]
 pub enum AcceptError {
     /// The device failed in a flush; open again.
+    #[error("Failed")]
     Failed = 13,
     /// Eight events are pending, as many as one block holds; flush first.
+    #[error("PendingFull")]
     PendingFull = 10,
     /// Its moment, in milliseconds, lies before the last one of this life.
+    #[error("ClockBack")]
     ClockBack = 11,
     /// Memory was refused for the event; nothing changed.
+    #[error("NoMemory")]
     NoMemory = 12,
 }
 
@@ -39,24 +42,18 @@ impl AcceptError {
     }
 }
 
-/// Its name.
-impl fmt::Display for AcceptError {
-    fn fmt<W: fmt::Write>(&self, f: &mut fmt::Formatter<W>) -> fmt::Result {
-        f.write_str(self.name())
-    }
-}
-
-impl Error for AcceptError {}
-
 /// Why nothing was released.
-#[derive(Clone, Copy, Debug)]
+#[derive(Clone, Copy, Debug, Error)]
 pub enum FlushError {
     /// The device failed in an earlier flush; open again.
+    #[error("Failed")]
     Failed = 21,
     /// The block of the greatest number has the last number, 2^40; nothing was written.
+    #[error("WornOut")]
     WornOut = 23,
     /// The device failed in this call: whether the pending events are on the disk isn't known, until it is opened
     /// again.
+    #[error("DeviceFault")]
     DeviceFault = 20,
 }
 
@@ -79,12 +76,3 @@ impl FlushError {
         }
     }
 }
-
-/// Its name.
-impl fmt::Display for FlushError {
-    fn fmt<W: fmt::Write>(&self, f: &mut fmt::Formatter<W>) -> fmt::Result {
-        f.write_str(self.name())
-    }
-}
-
-impl Error for FlushError {}

@@ -131,7 +131,7 @@ fn blank() -> MovementAuthority
 /// Reads packet 12 after its number, into the place of another packet; answers its L_PACKET, in bits. The error is the
 /// first fault in the order of the bits.
 #[tactic(auto, unfolding(crate::specs::Layouts::movement_authority_description))]
-pub fn read_movement_authority<'a>(
+pub(crate) fn read_movement_authority<'a>(
     reader: &mut BitReader<'a>,
     out: &mut Packet<'a>,
 ) -> Result<PacketLength, PacketFault>

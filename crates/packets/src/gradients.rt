@@ -93,7 +93,7 @@ pub struct Gradients {
 /// Reads packet 21 after its number, into the place of another packet; answers its L_PACKET, in bits. The error is the
 /// first fault in the order of the bits.
 #[tactic(auto, unfolding(crate::specs::Layouts::gradients_description))]
-pub fn read_gradients<'a>(
+pub(crate) fn read_gradients<'a>(
     reader: &mut BitReader<'a>,
     out: &mut Packet<'a>,
 ) -> Result<PacketLength, PacketFault>

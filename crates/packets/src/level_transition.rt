@@ -140,7 +140,7 @@ pub struct LevelTransition {
 /// Reads packet 41 after its number, into the place of another packet; answers its L_PACKET, in bits. The error is the
 /// first fault in the order of the bits.
 #[tactic(auto, unfolding(crate::specs::Layouts::level_transition_description))]
-pub fn read_level_transition<'a>(
+pub(crate) fn read_level_transition<'a>(
     reader: &mut BitReader<'a>,
     out: &mut Packet<'a>,
 ) -> Result<PacketLength, PacketFault>

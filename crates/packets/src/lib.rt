@@ -1,4 +1,4 @@
-//! The packets of a balise telegram, read from its bits (SUBSET-026, 7.4.2).
+//! The packets of a balise telegram, read from its bits and written (SUBSET-026, 7.4.2).
 #![tactic(auto)]
 
 /// What was answered. An error ends the calling function with it: as `?` does, which takes a proof half as long again.
@@ -13,7 +13,9 @@ macro_rules! ok {
 }
 
 mod authority;
+mod decoding;
 mod element;
+mod encoding;
 mod fault;
 mod fitting;
 mod gradients;
@@ -31,22 +33,18 @@ mod sink;
 mod static_speeds;
 mod walk;
 
-pub use authority::{
-    DangerPoint, EndTimer, MovementAuthority, Overlap, Section, SectionTimer,
-    read_movement_authority,
-};
+pub use authority::{DangerPoint, EndTimer, MovementAuthority, Overlap, Section, SectionTimer};
+pub use decoding::{one_spelling, read_numbered, read_packet};
+pub use encoding::{hand_packet, write_packet};
 pub use fault::PacketFault;
-pub use gradients::{Gradient, Gradients, read_gradients};
+pub use gradients::{Gradient, Gradients};
 pub use laws::sinks_take_packet_fields;
-pub use level_transition::{LevelOrder, LevelTransition, read_level_transition};
+pub use level_transition::{LevelOrder, LevelTransition};
 pub use limits::TELEGRAM_BYTES;
-pub use linking::{Link, Linking, read_linking};
-pub use mode_profile::{ModeArea, ModeProfile, read_mode_profile};
-pub use national::{NationalValues, read_national_values};
+pub use linking::{Link, Linking};
+pub use mode_profile::{ModeArea, ModeProfile};
+pub use national::NationalValues;
 pub use packet::{Other, Packet};
-pub use reading::field;
-pub use restrictions::{
-    RestrictionRevocation, SpeedRestriction, read_restriction, read_revocation,
-};
+pub use restrictions::{RestrictionRevocation, SpeedRestriction};
 pub use sink::{FieldSink, put};
-pub use static_speeds::{Difference, StaticSpeeds, StaticStep, read_static_speeds};
+pub use static_speeds::{Difference, StaticSpeeds, StaticStep};

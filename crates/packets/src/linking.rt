@@ -120,7 +120,7 @@ pub struct Linking {
 /// Reads packet 5 after its number, into the place of another packet; answers its L_PACKET, in bits. The error is the
 /// first fault in the order of the bits.
 #[tactic(auto, unfolding(crate::specs::Layouts::linking_description))]
-pub fn read_linking<'a>(
+pub(crate) fn read_linking<'a>(
     reader: &mut BitReader<'a>,
     out: &mut Packet<'a>,
 ) -> Result<PacketLength, PacketFault>

@@ -110,7 +110,7 @@ pub struct ModeProfile {
 /// Reads packet 80 after its number, into the place of another packet; answers its L_PACKET, in bits. The error is the
 /// first fault in the order of the bits.
 #[tactic(auto, unfolding(crate::specs::Layouts::mode_profile_description))]
-pub fn read_mode_profile<'a>(
+pub(crate) fn read_mode_profile<'a>(
     reader: &mut BitReader<'a>,
     out: &mut Packet<'a>,
 ) -> Result<PacketLength, PacketFault>

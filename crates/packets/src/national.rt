@@ -90,7 +90,7 @@ pub struct NationalValues {
 /// Reads packet 3 after its number, into the place of another packet; answers its L_PACKET, in bits. The error is the
 /// first fault in the order of the bits.
 #[tactic(auto, unfolding(crate::specs::Layouts::national_values_description))]
-pub fn read_national_values<'a>(
+pub(crate) fn read_national_values<'a>(
     reader: &mut BitReader<'a>,
     out: &mut Packet<'a>,
 ) -> Result<PacketLength, PacketFault>

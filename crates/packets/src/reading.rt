@@ -10,7 +10,7 @@ use vars::Variable;
 /// Reads a variable. Truncated where its bits aren't there, Spare or OutOfRange where its number has no value.
 #[inline(always)]
 #[tactic(auto, unfolding(bits::specs::Layout::read_field))]
-pub fn field<V: Variable>(reader: &mut BitReader<'_>) -> Result<V, PacketFault>
+pub(crate) fn field<V: Variable>(reader: &mut BitReader<'_>) -> Result<V, PacketFault>
     ensures { Gives (λ x. x) result reader.new (read_field PacketFault.Truncated packet_fault V.codes reader.old) }
 {
     let number = reader.take(V::WIDTH).ok_or(PacketFault::Truncated)?;

@@ -49,7 +49,7 @@ pub struct RestrictionRevocation {
 /// Reads packet 65 after its number, into the place of another packet; answers its L_PACKET, in bits. The error is the
 /// first fault in the order of the bits.
 #[tactic(auto, unfolding(crate::specs::Layouts::speed_restriction_description))]
-pub fn read_restriction<'a>(
+pub(crate) fn read_restriction<'a>(
     reader: &mut BitReader<'a>,
     out: &mut Packet<'a>,
 ) -> Result<PacketLength, PacketFault>
@@ -76,7 +76,7 @@ pub fn read_restriction<'a>(
 /// Reads packet 66 after its number, into the place of another packet; answers its L_PACKET, in bits. The error is the
 /// first fault in the order of the bits.
 #[tactic(auto, unfolding(crate::specs::Layouts::restriction_revocation_description))]
-pub fn read_revocation<'a>(
+pub(crate) fn read_revocation<'a>(
     reader: &mut BitReader<'a>,
     out: &mut Packet<'a>,
 ) -> Result<PacketLength, PacketFault>

@@ -16,7 +16,7 @@ use crate::heads::put_head;
 use crate::reading::field;
 use crate::sink::{FieldSink, put};
 use crate::static_speeds::handing::profile_fields;
-pub use crate::static_speeds::reading::read_static_speeds;
+pub(crate) use crate::static_speeds::reading::read_static_speeds;
 use arrayvec::ArrayVec;
 use bits::{BitReader, VariableName};
 use vars::{

@@ -2,7 +2,8 @@
 ghost use Rattle.safety_laws.specs.Intervening.{PassingEndTrips, FarTooFastBrakes, FarTooFastNowBrakes, RollingBackBrakes, NationalSpeedsAreKept};
 
 /// A law: while no speed is allowed at the end of authority (V_LOA), a train in Full Supervision, On Sight or Staff
-/// Responsible trips where it passes that end, unless an override is active.
+/// Responsible trips where its minimum safe front passes that end, unless an override is active; but for an overrun, and
+/// for a desk that is closed at standstill.
 pub fn passing_end_trips()
     ensures { PassingEndTrips }
 {}

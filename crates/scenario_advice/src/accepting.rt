@@ -4,7 +4,6 @@ use events::{Event, Input, Kept, Step};
 use kernel::State;
 use mode_table::{Cold, Mode};
 use std::alloc::Global;
-use step_list::StepList;
 use units::NoMemory;
 
 /// Of each action of the driver in a life, in their order, the mode in which the kernel doesn't accept it; None where it
@@ -12,17 +11,17 @@ use units::NoMemory;
 pub(crate) fn refusals(
     alloc: Global,
     cold: Cold,
-    life: &StepList,
+    life: &[Step],
 ) -> Result<Vec<Option<Mode>>, NoMemory> {
     let (mut state, output) = State::power_up(alloc, &Kept::nothing(), cold);
     let mut mode = output.mode;
     let mut moment = 0u64;
     let mut found = Vec::new(alloc);
-    for k in 0..life.len() {
-        let Step::Accept(input) = life.get(k) else {
+    for step in life {
+        let Step::Accept(input) = step else {
             continue;
         };
-        if let Input::Driver(action) = &input {
+        if let Input::Driver(action) = input {
             let refusal = if state.accepts(action) {
                 None
             } else {
@@ -30,13 +29,13 @@ pub(crate) fn refusals(
             };
             found.push(refusal)?;
         }
-        if let Input::Clock(now) = &input {
+        if let Input::Clock(now) = input {
             if now.get() < moment {
                 break;
             }
             moment = now.get();
         }
-        let output = state.apply(alloc, &Event::Input(input))?;
+        let output = state.apply(alloc, &Event::Input(input.copy()))?;
         mode = output.mode;
     }
     Ok(found)

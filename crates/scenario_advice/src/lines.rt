@@ -3,6 +3,7 @@
 use crate::accepting::refusals;
 use crate::advice::{LocatedAdvice, advice_on};
 use crate::locating::{Faults, LocatedFault, faults_of};
+use events::Step;
 use json_values::{Outline, Place, Position, Repeat, RepeatsError, has_repeats};
 use mode_table::Cold;
 use serde_json::Value;
@@ -10,7 +11,6 @@ use simulator::{Scenario, ScenarioFault};
 use std::alloc::{AllocError, Global};
 use std::io;
 use std::io::Write;
-use step_list::StepList;
 use text_output::Form;
 
 /// Why nothing can be reported.
@@ -166,12 +166,12 @@ fn advice_in(
     alloc: Global,
     outline: &Outline,
     text: &[u8],
-    life: &(Cold, StepList),
+    life: &(Cold, Vec<Step>),
 ) -> Result<Vec<LocatedAdvice>, LintError> {
     let Ok(value) = Value::from_slice(alloc, text) else {
         return Err(LintError::NoMemory);
     };
-    let Ok(refusals) = refusals(alloc, life.0, &life.1) else {
+    let Ok(refusals) = refusals(alloc, life.0, life.1.as_slice()) else {
         return Err(LintError::NoMemory);
     };
     match advice_on(alloc, outline, &value, refusals.as_slice()) {

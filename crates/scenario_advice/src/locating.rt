@@ -3,15 +3,15 @@ ghost use Rattle.std.specs.Prelude.{◌≡◌, ◌⊎◌, IfOk, IfErr};
 ghost use Rattle.simulator.specs.Scenarios.{Describes, FaultOf};
 
 use crate::wanted;
+use events::Step;
 use json_values::{Outline, Place, Position, Spot};
 use mode_table::Cold;
 use serde_json::Value;
 use simulator::{
-    Scenario, ScenarioFault, fault_of_at, fault_of_balise, fault_of_cold, fault_of_group,
-    fault_of_spacing, fault_of_step, plan_of,
+    Scenario, ScenarioFault, events_of, fault_of_at, fault_of_balise, fault_of_cold,
+    fault_of_group, fault_of_spacing, fault_of_step,
 };
 use std::alloc::Global;
-use step_list::StepList;
 
 /// A fault and its place.
 #[derive(Clone, Copy)]
@@ -307,17 +307,17 @@ impl Located<'_> {
 }
 
 /// What the train knows of movements without power, and the steps of the life that a scenario asks for; else its
-/// faults, of which the first is that for which it is refused (`simulator::plan_of`), or that memory is refused. The
+/// faults, of which the first is that for which it is refused (`simulator::events_of`), or that memory is refused. The
 /// outline is that of the scenario's text.
 pub fn faults_of(
     alloc: Global,
     scenario: &Scenario,
     outline: &Outline,
-) -> Result<(Cold, StepList), Faults>
-    ensures ok { IfOk result (λ life. Describes scenario.now.bytes.items life.0 life.1) }
+) -> Result<(Cold, Vec<Step>), Faults>
+    ensures ok { IfOk result (λ life. Describes scenario.now.bytes.items life.0 life.1.items) }
     ensures err { IfErr result (λ faults. (faults.first.fault ≡ ScenarioFault.NoMemory) ⊎ FaultOf scenario.now.bytes.items faults.first.fault) }
 {
-    match plan_of(alloc, scenario) {
+    match events_of(alloc, scenario) {
         Ok(life) => Ok(life),
         Err(fault) => {
             let located = Located { alloc, outline };

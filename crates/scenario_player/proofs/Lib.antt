@@ -1,2 +1,3 @@
+pub mod Flushes
 pub mod Living
 pub mod Releasing

@@ -2,6 +2,7 @@
 ghost use Rattle.std.specs.Prelude.{◌≡◌, ◌≤◌, IfOk};
 ghost use Rattle.blocks.specs.FirstSector.{least_slots, most_slots, sectors_of};
 ghost use Rattle.disk.specs.Memory.{memory_state};
+ghost use Rattle.scenario_player.specs.Calls.{flushes_in, calls_of};
 ghost use Rattle.scenario_player.specs.Playing.{IsEmpty, AreBytesOf, StaysReady};
 
 use disk::{Disk, Memory, SECTOR_BYTES, WriteDisk};
@@ -9,14 +10,15 @@ use events::Step;
 use journal::format;
 use ring::sectors_before;
 use std::alloc::Global;
-use step_list::StepList;
 use units::NoMemory;
 
 // How many flushes the steps have.
-fn flushes_in(steps: &StepList) -> u64 {
+fn flushes_in(steps: &[Step]) -> u64
+    ensures { result ≡ flushes_in steps.now }
+{
     let mut flushes: u64 = 0;
-    for k in 0..steps.len() {
-        if let Step::Flush = steps.get(k) {
+    for step in steps {
+        if let Step::Flush = step {
             flushes += 1;
         }
     }
@@ -25,8 +27,9 @@ fn flushes_in(steps: &StepList) -> u64 {
 
 /// At least as many calls of the device as a life of these steps makes on a journal of so many slots, and then one to
 /// read the image.
-pub(crate) fn calls_of(slots: u32, steps: &StepList) -> u64 {
-    // An opening calls the device once for each slot and a few times more, and a flush six times, with seven sectors.
+pub(crate) fn calls_of(slots: u32, steps: &[Step]) -> u64
+    ensures { result ≡ calls_of slots steps.now }
+{
     let for_flushes = flushes_in(steps).saturating_add(16).saturating_mul(8);
     for_flushes.saturating_add(2 * u64::from(slots))
 }

@@ -8,12 +8,12 @@ ghost use Rattle.scenario_player.specs.Playing.{is_refusal, is_played, IsEmpty, 
 
 use crate::image::{calls_of, empty_journal};
 use disk::Memory;
+use events::Step;
 use mode_table::Cold;
 use onboard::{AcceptError, FlushError, Released};
 use std::alloc::Global;
-use step_list::StepList;
 use units::NoMemory;
-use whole_lives::{LiveError, live_into};
+use whole_lives::{LiveError, live};
 
 /// A life that was played.
 #[derive(Drop)]
@@ -52,7 +52,7 @@ pub(crate) fn play_life(
     alloc: Global,
     disk: Memory,
     cold: Cold,
-    steps: &StepList,
+    steps: &[Step],
 ) -> Result<Played, NoMemory>
     ensures sectors { IfOk result (λ played. (memory_state played.disk).sectors ≡ (memory_state disk).sectors) }
 
@@ -67,7 +67,7 @@ pub(crate) fn play_life(
         (memory_state disk) (memory_state played.disk)) }
 {
     let mut released = Vec::new(alloc);
-    let (disk, ended) = live_into(alloc, disk, cold, steps, &mut released);
+    let (disk, ended) = live(alloc, disk, cold, steps, &mut released);
     if !is_played(&ended) {
         return Err(NoMemory);
     }
@@ -85,7 +85,7 @@ pub fn play_first(
     alloc: Global,
     slots: u32,
     cold: Cold,
-    steps: &StepList,
+    steps: &[Step],
     later_calls: u64,
 ) -> Result<Played, NoMemory>
     requires slots { (least_slots ≤ slots) × (slots ≤ most_slots) }

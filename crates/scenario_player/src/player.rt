@@ -4,6 +4,7 @@ ghost use Rattle.blocks.specs.FirstSector.{least_slots, most_slots};
 ghost use Rattle.disk.specs.Memory.{memory_state};
 ghost use Rattle.events.specs.declared.input.Event.{Event};
 ghost use Rattle.unit_start.specs.Lives.{IsReady};
+ghost use Rattle.scenario_player.specs.Calls.{AreCallsFor};
 ghost use Rattle.scenario_player.specs.Playing.{cold_by, PlaysOne, PlaysAfter};
 ghost use Rattle.scenario_player.specs.Refusals.{HasNoJournal, IsCause, IsCauseAfter};
 
@@ -13,7 +14,7 @@ use crate::life::{Played, play_first, play_life};
 use blocks::{LEAST_SLOTS, MOST_SLOTS};
 use disk::Memory;
 use mode_table::Cold;
-use simulator::{Scenario, plan_of};
+use simulator::{Scenario, events_of};
 use std::alloc::Global;
 
 // Whether a journal has so many slots.
@@ -53,12 +54,12 @@ pub fn play(
     if !has_journal(slots) {
         return Err(PlayError::BadSlots);
     }
-    match plan_of(alloc, scenario) {
+    match events_of(alloc, scenario) {
         Ok((own_cold, steps)) => match play_first(
             alloc,
             slots,
             cold_by(given, own_cold),
-            &steps,
+            steps.as_slice(),
             later_calls,
         ) {
             Ok(played) => Ok(played),
@@ -82,11 +83,13 @@ pub fn play_after(
         outcome.released.items (memory_state disk) (memory_state outcome.disk)) }
     ensures err { IfErr result (IsCauseAfter scenario.now.bytes.items) }
 {
-    match plan_of(alloc, scenario) {
-        Ok((own_cold, steps)) => match play_life(alloc, disk, cold_by(given, own_cold), &steps) {
-            Ok(played) => Ok(played),
-            Err(_) => Err(PlayError::NoMemory),
-        },
+    match events_of(alloc, scenario) {
+        Ok((own_cold, steps)) => {
+            match play_life(alloc, disk, cold_by(given, own_cold), steps.as_slice()) {
+                Ok(played) => Ok(played),
+                Err(_) => Err(PlayError::NoMemory),
+            }
+        }
         Err(fault) => Err(error_of(fault)),
     }
 }
@@ -94,10 +97,11 @@ pub fn play_after(
 /// At least as many calls of the device as a life of this scenario makes on a journal of so many slots; else the first
 /// fault of the scenario, in the place of which NoMemory may come.
 pub fn calls_for(alloc: Global, scenario: &Scenario, slots: u32) -> Result<u64, PlayError>
-    ensures { IfErr result (IsCauseAfter scenario.now.bytes.items) }
+    ensures calls { IfOk result (AreCallsFor scenario.now.bytes.items slots) }
+    ensures err { IfErr result (IsCauseAfter scenario.now.bytes.items) }
 {
-    match plan_of(alloc, scenario) {
-        Ok((_, steps)) => Ok(calls_of(slots, &steps)),
+    match events_of(alloc, scenario) {
+        Ok((_, steps)) => Ok(calls_of(slots, steps.as_slice())),
         Err(fault) => Err(error_of(fault)),
     }
 }

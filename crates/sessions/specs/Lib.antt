@@ -1,4 +1,3 @@
 pub mod Lines
-pub mod Printing
 pub mod Reasons
 pub mod Sessions

@@ -3,7 +3,7 @@
 -- six sectors.
 
 -- Taken for granted: where a write failed, nothing is said of what was written. A session is a life on an honest disk.
-use Rattle.std.specs.Prelude.{◌≡◌, ◌⊎◌, ℕ, ◌*◌, List, [], ◌∷◌, ◌++◌, Bool, true, false, IsTrue, Option, Some, None, Result, IfOk, IfErr, codes, decimal}
+use Rattle.std.specs.Prelude.{◌≡◌, ◌⊎◌, ℕ, ◌*◌, List, [], ◌∷◌, ◌++◌, Bool, true, false, IsTrue, Option, Some, None, Result, IfOk, codes, decimal}
 use Rattle.std.specs.Io.KnownBytes.{Appends}
 use Rattle.blocks.specs.FirstSector.{sectors_of}
 use Rattle.disk.specs.State.{State, Counted}
@@ -16,7 +16,6 @@ use Rattle.events.specs.declared.step.Step.{Step}
 use Rattle.mode_table.specs.declared.statuses.Cold.{Cold}
 use Rattle.whole_lives.specs.declared.errors.LiveError.{LiveError}
 use Rattle.onboard.specs.declared.released.Released.{Released}
-use Rattle.whole_lives.specs.Answers.{is_full}
 use Rattle.unit_start.specs.Lives.{IsReady}
 use Rattle.whole_lives.specs.Runs.{IsOfLife, Lives}
 use Rattle.whole_lives.specs.Stops.{LifeEnds, OnlyOpens, IsDone, IsUnflushed}
@@ -58,11 +57,11 @@ pub record Session {E : Type 0} (whole_from : ℕ) (durable accepted : List Even
   pub released : List Released
   -- how the life ended: where it stopped, the step and why
   pub ended : Result (Unit {0}) LiveError
-  -- it is a life by the contract of `onboard::live_into`
+  -- it is a life by the contract of `whole_lives::live`
   pub life : Lives whole_from durable accepted found cold power_up_cold steps old new [] released
   -- it released exactly what the steps before its end ask for, and nothing where it wasn't opened
   pub done : IsDone (PowerUp power_up_cold ∷ found) steps (OnlyOpens whole_from durable accepted found power_up_cold old new) ended life.steps_taken life.durable_at_end life.accepted_at_end life.released
-  -- a flush that found no space put nothing on the disk
+  -- a flush for whose releases memory was refused put nothing on the disk
   pub unflushed : IsUnflushed whole_from (IsOfLife whole_from old.sectors durable accepted found power_up_cold) steps ended life.durable_at_end old new
   -- where it didn't stop, the newest block is that of its last flush of something pending
   pub last : LeavesLast found power_up_cold steps ended new
@@ -70,8 +69,6 @@ pub record Session {E : Type 0} (whole_from : ℕ) (durable accepted : List Even
   pub stopped : LifeEnds old steps ended
   -- where all writes succeeded, just the report of what was released came after the text, with the status of the end
   pub reported : Says (status_of ended) (report_of released ended) before after answer
-  -- and there was space for each release
-  pub has_space_left : IfOk answer (λ status. IfErr ended (λ e. is_full e ≡ false))
 
 -- ---- from the bytes of a scenario to what is written
 

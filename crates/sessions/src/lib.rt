@@ -1,10 +1,9 @@
 //! What the program does with images and scenarios (this project's profile): makes an image, runs a life on it and
-//! writes what is released as it is released, and lists its journal.
+//! writes what was released, and lists its journal.
 #![tactic(auto)]
 
 mod images;
 mod lives;
-mod printer;
 mod reasons;
 mod refusals;
 mod scenarios;

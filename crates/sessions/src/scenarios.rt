@@ -6,7 +6,7 @@ use crate::lives::run_life;
 use crate::refusals::refuse_scenario;
 use disk::Disk;
 use file_disk::FileDisk;
-use simulator::{Scenario, ScenarioFault, plan_of};
+use simulator::{Scenario, ScenarioFault, events_of};
 use std::alloc::Global;
 use std::fs::File;
 use std::io::Write;
@@ -30,7 +30,7 @@ pub fn play<D: Disk, O: FnOnce() -> Option<D>, W: Write>(
         result.2 }
 {
     let mut out = out;
-    let (cold, steps) = match plan_of(alloc, scenario) {
+    let (cold, steps) = match events_of(alloc, scenario) {
         Ok(life) => life,
         Err(fault) => {
             let status = refuse_scenario(fault, &mut out);
@@ -41,7 +41,7 @@ pub fn play<D: Disk, O: FnOnce() -> Option<D>, W: Write>(
         let status = describe(&mut out, "device", Status::Device);
         return (Image::Missing, out, status);
     };
-    let (disk, out, status) = run_life(alloc, disk, cold, &steps, out);
+    let (disk, status) = run_life(alloc, disk, cold, steps.as_slice(), &mut out);
     (Image::Opened(disk), out, status)
 }
 

@@ -1,7 +1,5 @@
 -- What an object of one member asks for, by its name.
-use Rattle.std.proofs.Common.{◌≡◌, ℕ, List, codes, true, Result, Err, sym, ap, ◌∙◌, subst}
-use Rattle.std.specs.Str.{bytes_eq}
-use Rattle.std.proofs.lemmas.Slice.Eq.{bytes_eq-Decides}
+use Rattle.std.proofs.Common.{◌≡◌, ℕ, List, codes, Result, Err, sym, ap, ◌∙◌}
 use Rattle.serde_json.specs.Data.{Data, no_members}
 use Rattle.serde_json.specs.Find.{get}
 use Rattle.serde_json.proofs.Views.{get_member-put_other}
@@ -23,7 +21,3 @@ unfolding by_key
 by_none name v a b c d e =
     other_than name (codes "drive") v drive _ a ∙ other_than name (codes "telegram") v telegram _ b ∙ other_than name (codes "clock") v clock _ c
     ∙ other_than name (codes "driver") v driver _ d ∙ other_than name (codes "flush") v flush _ e
-
--- what holds of a name holds of one that is equal
-pub by_name : (P : List ℕ → Type 0) (name key : List ℕ) → bytes_eq name key ≡ true → P key → P name
-by_name P name key is there = subst P (sym ((bytes_eq-Decides name key).0 is)) there

@@ -1,9 +1,7 @@
-pub mod Forms
 pub mod Identity
 pub mod Keys
 pub mod Passing
 pub mod Readings
 pub mod Sifting
-pub mod Spelled
 pub mod TextAnswers
 pub mod ValueFaults

@@ -19,7 +19,7 @@ pub record Run : Type 0 where
   pub steps : List Step
 
 abbrev pub run_of : Course → Run
-run_of c = record { front = c.front; pending = c.pending; steps = c.steps }
+run_of c = record { front = c.front; pending = c.pending; steps = c.steps.items }
 
 abbrev pub start : Run
 start = record { front = pos 0; pending = 0; steps = [] }

@@ -9,6 +9,5 @@ pub mod Numbers
 pub mod Parts
 pub mod Passing
 pub mod Scenarios
-pub mod Spelled
 pub mod Steps
 pub mod Values

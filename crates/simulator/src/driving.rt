@@ -10,7 +10,6 @@ use crate::step_kinds::StepKind;
 use crate::track::Track;
 use events::{Input, MOST_PENDING, Reading, Step};
 use std::alloc::Global;
-use step_list::StepList;
 use units::{Movement, Mph, NoMemory};
 
 /// How far a reading moves at most, in centimetres.
@@ -35,7 +34,7 @@ pub struct Course {
     /// How many events are pending.
     pub pending: usize,
     /// The steps so far.
-    pub steps: StepList,
+    pub steps: Vec<Step>,
     ghost few: { pending ≤ most_pending },
 }
 
@@ -49,7 +48,7 @@ impl Course {
         Course {
             front: 0,
             pending: 0,
-            steps: StepList::new(alloc),
+            steps: Vec::new(alloc),
         }
     }
 
@@ -76,8 +75,8 @@ impl Course {
     }
 
     /// The steps, the last one a flush where something is pending. NoMemory where memory for it was refused.
-    pub fn end(mut self) -> Result<StepList, NoMemory>
-        ensures ok { IfOk result (λ steps. steps ≡ (ended (run_of self)).steps) }
+    pub fn end(mut self) -> Result<Vec<Step>, NoMemory>
+        ensures ok { IfOk result (λ steps. steps.items ≡ (ended (run_of self)).steps) }
     {
         if self.pending != 0 {
             self.flush()?;

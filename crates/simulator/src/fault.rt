@@ -3,22 +3,26 @@ ghost use Rattle.std.specs.Prelude.{◌≡◌};
 ghost use Rattle.simulator.specs.FaultNumbers.{fault_number, fault_name};
 
 use std::alloc::{AllocError, AllocFailed};
-use std::error::Error;
-use std::fmt;
+use thiserror::Error;
 use units::NoMemory;
 
 /// Why a scenario is refused (this project's profile).
-#[derive(Clone, Copy, Debug)]
+#[derive(Clone, Copy, Debug, Error)]
 pub enum ScenarioFault {
     /// The bytes are no JSON value.
+    #[error("NotJson")]
     NotJson = 1,
     /// A key is missing or one too many, a value has the wrong kind, or a list the wrong count.
+    #[error("Shape")]
     Shape = 2,
     /// A number or the length of a text is outside its limits.
+    #[error("OutOfRange")]
     OutOfRange = 3,
     /// The text of a telegram isn't hexadecimal digits, two a byte.
+    #[error("BadHex")]
     BadHex = 4,
     /// Memory was refused.
+    #[error("NoMemory")]
     NoMemory = 5,
 }
 
@@ -43,15 +47,6 @@ impl ScenarioFault {
         }
     }
 }
-
-/// Its name.
-impl fmt::Display for ScenarioFault {
-    fn fmt<W: fmt::Write>(&self, f: &mut fmt::Formatter<W>) -> fmt::Result {
-        f.write_str(self.name())
-    }
-}
-
-impl Error for ScenarioFault {}
 
 impl From<AllocError> for ScenarioFault {
     ghost use Rattle.std.specs.Prelude.{◌≡◌};

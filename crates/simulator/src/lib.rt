@@ -13,7 +13,6 @@ mod fault;
 mod groups;
 mod laws;
 mod lives;
-mod one_pass;
 mod parts;
 mod reading;
 mod step_kinds;
@@ -30,6 +29,6 @@ pub use lives::life_of;
 pub use parts::{
     fault_of_at, fault_of_balise, fault_of_cold, fault_of_group, fault_of_spacing, fault_of_step,
 };
-pub use reading::{Scenario, ends_of, events_of, plan_of};
+pub use reading::{Scenario, ends_of, events_of};
 pub use step_kinds::StepKind;
 pub use track::Track;

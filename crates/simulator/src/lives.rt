@@ -12,11 +12,11 @@ use crate::driving::Course;
 use crate::groups::lay_all;
 use crate::track::Track;
 use crate::values::{byte_of, items_at};
+use events::Step;
 use json_values::has_members;
 use mode_table::Cold;
 use serde_json::Value;
 use std::alloc::Global;
-use step_list::StepList;
 
 #[tactic(auto, unfolding(crate::specs::Lives::has_keys))]
 fn has_keys(value: &Value) -> bool
@@ -64,9 +64,9 @@ pub(crate) fn track_of(alloc: Global, items: &[Value]) -> Result<Track, Scenario
 }
 
 #[tactic(auto, unfolding(crate::specs::Lives::steps_in))]
-fn steps_of(alloc: Global, track: &Track, items: &[Value]) -> Result<StepList, ScenarioFault>
+fn steps_of(alloc: Global, track: &Track, items: &[Value]) -> Result<Vec<Step>, ScenarioFault>
     ensures ok { IfOk result (λ steps. steps_in (passed track.now.balises.items) (map view items.now)
-        ≡ Ok steps) }
+        ≡ Ok steps.items) }
     ensures err { IfErr result (λ fault. (fault ≡ ScenarioFault.NoMemory)
         ⊎ (steps_in (passed track.now.balises.items) (map view items.now) ≡ Err fault)) }
 {
@@ -82,8 +82,8 @@ fn steps_of(alloc: Global, track: &Track, items: &[Value]) -> Result<StepList, S
 /// first fault. The faults come in this order: the keys of the object; the value of `cold`; the groups; the steps; in
 /// each item its shape, and then its numbers and texts. NoMemory may come in the place of any of them.
 #[tactic(auto, unfolding(crate::specs::Lives::life_in))]
-pub fn life_of(alloc: Global, value: &Value) -> Result<(Cold, StepList), ScenarioFault>
-    ensures ok { IfOk result (λ life. life_in (view value.now) ≡ Ok (life.0, life.1)) }
+pub fn life_of(alloc: Global, value: &Value) -> Result<(Cold, Vec<Step>), ScenarioFault>
+    ensures ok { IfOk result (λ life. life_in (view value.now) ≡ Ok (life.0, life.1.items)) }
     ensures err { IfErr result (λ fault. (fault ≡ ScenarioFault.NoMemory) ⊎ (life_in (view value.now) ≡ Err fault)) }
 {
     if !has_keys(value) {

@@ -6,12 +6,10 @@ ghost use Rattle.simulator.specs.Scenarios.{IsReading, Describes, FaultOf, Descr
 
 use crate::fault::ScenarioFault;
 use crate::lives::life_of;
-use crate::one_pass::{ends_by_tokens, life_by_tokens};
 use events::Step;
 use mode_table::Cold;
 use serde_json::Value;
 use std::alloc::Global;
-use step_list::StepList;
 
 /// A scenario: the bytes of its file (this project's profile).
 #[derive(Drop)]
@@ -36,34 +34,20 @@ fn value_of(alloc: Global, scenario: &Scenario) -> Result<Value, ScenarioFault>
 /// What the train knows of movements without power, and the steps of the life that the scenario asks for; or its first
 /// fault. The faults come in this order: NotJson; the keys of the object; the value of `cold`; the groups; the steps;
 /// in each item its shape, and then its numbers and texts. NoMemory may come in the place of any of them.
-pub fn plan_of(alloc: Global, scenario: &Scenario) -> Result<(Cold, StepList), ScenarioFault>
-    ensures ok { IfOk result (λ life. Describes scenario.now.bytes.items life.0 life.1) }
-    ensures err { IfErr result (λ fault. (fault ≡ ScenarioFault.NoMemory) ⊎ FaultOf scenario.now.bytes.items fault) }
-{
-    if let Some(life) = life_by_tokens(alloc, scenario.bytes.as_slice()) {
-        return Ok(life);
-    }
-    life_of(alloc, &value_of(alloc, scenario)?)
-}
-
-/// The same as `plan_of`, with the steps as a list of their own.
 pub fn events_of(alloc: Global, scenario: &Scenario) -> Result<(Cold, Vec<Step>), ScenarioFault>
     ensures ok { IfOk result (λ life. Describes scenario.now.bytes.items life.0 life.1.items) }
     ensures err { IfErr result (λ fault. (fault ≡ ScenarioFault.NoMemory) ⊎ FaultOf scenario.now.bytes.items fault) }
 {
-    let (cold, steps) = plan_of(alloc, scenario)?;
-    Ok((cold, steps.to_vec(alloc)?))
+    life_of(alloc, &value_of(alloc, scenario)?)
 }
 
-/// Of each step of the scenario, how many steps of the life that `plan_of` answers there are up to its end: so the step
-/// at a place of that life comes from the first step of the scenario whose end is beyond the place; a last flush comes
-/// from none. An error is NotJson, or the first fault of the groups and the steps; NoMemory may come in the place of any.
+/// Of each step of the scenario, how many steps of the life that `events_of` answers there are up to its end: so the
+/// step at a place of that life comes from the first step of the scenario whose end is beyond the place; a last flush
+/// comes from none. An error is NotJson, or the first fault of the groups and the steps; NoMemory may come in the place
+/// of any.
 pub fn ends_of(alloc: Global, scenario: &Scenario) -> Result<Vec<usize>, ScenarioFault>
     ensures ok { IfOk result (λ ends. DescribesEnds scenario.now.bytes.items ends.items) }
     ensures err { IfErr result (λ fault. (fault ≡ ScenarioFault.NoMemory) ⊎ EndsFault scenario.now.bytes.items fault) }
 {
-    if let Some(ends) = ends_by_tokens(alloc, scenario.bytes.as_slice()) {
-        return Ok(ends);
-    }
     crate::ends::ends_of(alloc, &value_of(alloc, scenario)?)
 }

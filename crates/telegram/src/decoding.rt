@@ -13,8 +13,7 @@ use crate::header::{HEADER_BITS, field, read_header};
 use crate::message::Telegram;
 use arrayvec::ArrayVec;
 use bits::BitReader;
-use packet_coding::read_numbered;
-use packets::{Packet, TELEGRAM_BYTES};
+use packets::{Packet, TELEGRAM_BYTES, read_numbered};
 use vars::PacketNumber;
 
 /// Reads the next packet into the place of another one; false at the end mark.

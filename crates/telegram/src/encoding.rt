@@ -7,8 +7,7 @@ ghost use Rattle.telegram.specs.Telegrams.{header as header_layout, Carries, Spe
 use crate::header::{HEADER_BITS, Header};
 use crate::message::Telegram;
 use bits::{BitWriter, Full};
-use packet_coding::write_packet;
-use packets::{Packet, TELEGRAM_BYTES};
+use packets::{Packet, TELEGRAM_BYTES, write_packet};
 use thiserror::Error;
 
 /// The telegram has more bits than `TELEGRAM_BYTES` have, which are 832 (SUBSET-026, 8.4.2).

@@ -3,30 +3,38 @@ ghost use Rattle.std.specs.Prelude.{◌≡◌};
 ghost use Rattle.telegram.specs.Faults.{number_of_fault, name_of_fault};
 
 use packets::PacketFault;
-use std::error::Error;
-use std::fmt;
+use thiserror::Error;
 use vars::NoValue;
 
 /// Why bytes carry no telegram (SUBSET-026, 8.4.2; the numbers: this project's profile).
-#[derive(Clone, Copy, Debug)]
+#[derive(Clone, Copy, Debug, Error)]
 pub enum TelegramFault {
     /// The bits end within the header or a packet.
+    #[error("Truncated")]
     Truncated = 1,
     /// L_PACKET isn't the number of bits of its packet.
+    #[error("WrongLength")]
     WrongLength = 2,
     /// A variable has a number that the language keeps spare.
+    #[error("Spare")]
     Spare = 3,
     /// A variable has a number outside its range.
+    #[error("OutOfRange")]
     OutOfRange = 4,
     /// M_VERSION isn't 16.
+    #[error("WrongVersion")]
     WrongVersion = 5,
     /// Q_UPDOWN isn't 1.
+    #[error("NotUplink")]
     NotUplink = 6,
     /// Q_MEDIA isn't 0.
+    #[error("NotBalise")]
     NotBalise = 7,
     /// The bits end before the end mark.
+    #[error("NoEnd")]
     NoEnd = 8,
     /// There are more than `packets::TELEGRAM_BYTES` bytes.
+    #[error("TooLong")]
     TooLong = 9,
 }
 
@@ -55,15 +63,6 @@ impl TelegramFault {
         }
     }
 }
-
-/// Its name.
-impl fmt::Display for TelegramFault {
-    fn fmt<W: fmt::Write>(&self, f: &mut fmt::Formatter<W>) -> fmt::Result {
-        f.write_str(self.name())
-    }
-}
-
-impl Error for TelegramFault {}
 
 impl From<NoValue> for TelegramFault {
     ghost use Rattle.std.specs.Prelude.{◌≡◌};

@@ -5,8 +5,7 @@ use crate::faults::Ranges;
 use arrayvec::ArrayVec;
 use bits::{BitReader, BitWriter, Full, VariableName};
 use decoding::{FieldValue, fields_of_packet};
-use packet_coding::read_packet;
-use packets::{Packet, TELEGRAM_BYTES};
+use packets::{Packet, TELEGRAM_BYTES, read_packet};
 use vars::{PacketLength, PacketNumber, ValidityDirection, Variable};
 
 /// The bits of a telegram at most.

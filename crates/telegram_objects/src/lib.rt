@@ -6,6 +6,7 @@ mod bodies;
 mod drafts;
 mod faults;
 mod headers;
+mod hex_text;
 mod laws;
 mod matching;
 mod object;
@@ -20,6 +21,7 @@ mod widths;
 
 pub use bodies::TelegramBytes;
 pub use faults::{ObjectFault, Place, Ranges, Reason};
+pub use hex_text::HexText;
 pub use laws::objects_report_their_telegram;
 pub use object::{Decoded, FaultObject, PacketObject, RefusalObject, TelegramObject, decoded_of};
 pub use repeated::RepeatedName;

@@ -5,13 +5,13 @@ ghost use Rattle.packets.specs.Packets.{length_of};
 ghost use Rattle.telegram.specs.Sequences.{length_of_all};
 ghost use Rattle.telegram_objects.specs.Objects.{body_bytes, body_of, skipped_bits, packet_object, telegram_object, refusal_of, IsDecoded};
 
+use crate::hex_text::HexText;
 use bits::{BitWriter, Run};
 use decoding::{FieldValue, fields_of_header, fields_of_packet};
 use line_sinks::Items;
 use packets::{Packet, TELEGRAM_BYTES};
 use serde::{Serialize, Serializer};
 use std::alloc::{AllocError, Global};
-use std::fmt;
 use telegram::{Telegram, TelegramFault, decode_into};
 
 /// A packet of a telegram.
@@ -93,22 +93,9 @@ fn write_pairs<S: Serializer>(fields: &Items<FieldValue>, out: &mut S) -> Result
     out.end_seq()
 }
 
-// Bytes in hexadecimal digits.
-#[derive(Clone, Copy)]
-struct HexText<'a>(&'a [u8]);
-
-impl fmt::Display for HexText<'_> {
-    fn fmt<W: fmt::Write>(&self, f: &mut fmt::Formatter<W>) -> fmt::Result {
-        for byte in self.0 {
-            write!(f, "{byte:02X}")?;
-        }
-        Ok(())
-    }
-}
-
 fn write_body<S: Serializer>(body: &Option<Items<u8>>, out: &mut S) -> Result<(), S::Error> {
     match body {
-        Some(bytes) => out.collect_str(&HexText(bytes.as_slice())),
+        Some(bytes) => out.collect_str(&HexText::upper(bytes.as_slice())),
         None => out.unit(),
     }
 }

@@ -1,5 +1,5 @@
 -- A text in pieces, for people or as JSON (this project's profile).
-use Rattle.std.specs.Prelude.{ℕ, List, codes, decimal, Option, Some, None, [], ◌∷◌, ◌++◌, ◌==◌, if◌then◌else◌}
+use Rattle.std.specs.Prelude.{ℕ, List, codes, decimal, Option, Some, None, [], ◌∷◌, ◌++◌}
 use Rattle.std.specs.Borrow.{Bor}
 use Rattle.std.specs.Fmt.{signed_decimal}
 use Rattle.text_output.specs.declared.piece.Form.{Form}
@@ -42,8 +42,3 @@ parts_after form text (p ∷ ps) = parts_after form (text ++ texts form p.now) p
 abbrev pub part_texts : Form → List (Bor (List Piece)) → List ℕ
 part_texts form [] = []
 part_texts form (p ∷ ps) = parts_after form (texts form p.now) ps
-
--- a printable character; as JSON a quotation mark (34) and a backslash (92) after a backslash (RFC 8259, 7)
-unfoldable pub escaped : Form → ℕ → List ℕ
-escaped People byte = byte ∷ []
-escaped Json byte = if byte == 34 then codes "\\\"" else if byte == 92 then codes "\\\\" else byte ∷ []

@@ -16,6 +16,6 @@ pub use description::describe;
 pub use line::append;
 pub use output_line::OutputLines;
 pub use output_names::{brake_name, level_name, mode_name};
-pub use piece::{Form, Piece, known, shared_text};
+pub use piece::{Form, Piece, known};
 pub use status::Status;
-pub use writing::{write_characters, write_parts, write_pieces};
+pub use writing::{write_parts, write_pieces};

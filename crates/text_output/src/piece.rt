@@ -27,13 +27,6 @@ pub enum Piece {
     Nothing,
 }
 
-/// A text that is the same in both forms.
-pub fn shared_text(text: &'static str) -> Piece
-    ensures { (form : a_form) → text_of form result ≡ text.now }
-{
-    Piece::Same(text)
-}
-
 /// A number; a question mark or `null` where it isn't known.
 pub fn known(number: Option<u64>) -> Piece
     ensures { (form : a_form) → text_of form result ≡ known_text form number }

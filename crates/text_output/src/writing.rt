@@ -1,8 +1,8 @@
 //! Writing pieces.
-ghost use Rattle.std.specs.Prelude.{◌≡◌, flat_map, decimal, OnOk};
+ghost use Rattle.std.specs.Prelude.{flat_map, decimal, OnOk};
 ghost use Rattle.std.specs.Fmt.{signed_decimal};
 ghost use Rattle.std.specs.Io.KnownBytes.{Appends};
-ghost use Rattle.text_output.specs.Pieces.{text_of, texts, part_texts, escaped};
+ghost use Rattle.text_output.specs.Pieces.{text_of, texts, part_texts};
 
 use crate::piece::{Form, Piece};
 use std::io;
@@ -65,26 +65,4 @@ pub fn write_parts<W: Write>(form: Form, parts: &[&[Piece]], out: &mut W) -> io:
     ensures { OnOk result (Appends (W.contents out.old) (W.contents out.new) (part_texts form parts.now)) }
 {
     write_each_part(form, parts, out)
-}
-
-#[tactic(auto, unfolding(crate::specs::Pieces::escaped))]
-fn write_character<W: Write>(form: Form, byte: u8, out: &mut W) -> io::Result<()>
-    ensures { OnOk result (Appends (W.contents out.old) (W.contents out.new) (escaped form byte)) }
-{
-    match (form, byte) {
-        (Form::Json, b'"') => out.write_all(b"\\\""),
-        (Form::Json, b'\\') => out.write_all(b"\\\\"),
-        _ => out.write_all(&[byte]),
-    }
-}
-
-/// Writes printable characters: for people as they are, as JSON a quotation mark and a backslash after a backslash
-/// (RFC 8259, 7). The error is that of a write.
-pub fn write_characters<W: Write>(form: Form, bytes: &[u8], out: &mut W) -> io::Result<()>
-    ensures { OnOk result (Appends (W.contents out.old) (W.contents out.new) (flat_map (escaped form) bytes.now)) }
-{
-    for byte in bytes {
-        write_character(form, *byte, out)?;
-    }
-    Ok(())
 }

@@ -4,8 +4,7 @@ ghost use Rattle.track_packets.specs.Reading.{DescribesKernel};
 use crate::reading::{Field, Fields, FieldsError};
 use crate::variable::Variable;
 use bits::{BitReader, Run, VariableName};
-use packet_coding::{hand_packet, read_packet};
-use packets::FieldSink;
+use packets::{FieldSink, hand_packet, read_packet};
 use std::alloc::Global;
 
 /// Memory was refused.

@@ -30,6 +30,6 @@ pub use ending::{
 pub use happened::Happened;
 pub use hearing::TelegramOutcome;
 pub use laws::telegrams_are_carried;
-pub use state::{Trackside, TracksideOver};
+pub use state::TracksideOver;
 pub use stores::{Facts, ProfileStores, Segments};
 pub use using::{is_valid, valid_in};

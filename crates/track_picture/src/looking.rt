@@ -86,10 +86,10 @@ impl<T: ProfileStores> TracksideOver<T> {
         ensures size { size_in T.stores self.new ≤ size_in T.stores self.old }
     {
         let moves = self.restrictions.mark() < mark;
-        self.restrictions.drop_before(mark);
+        self.restrictions.drop_behind(mark);
         if moves {
-            self.gradients.drop_before(mark);
-            self.speeds.drop_before(mark);
+            self.gradients.drop_behind(mark);
+            self.speeds.drop_behind(mark);
         }
     }
 

@@ -3,7 +3,7 @@ ghost use Rattle.std.specs.Prelude.{◌≡◌, [], IsOk, IfOk};
 ghost use Rattle.track_picture.specs.StandsFor.{StandsForLife, size_in};
 
 use crate::parts::Parts;
-use crate::stores::{ProfileStores, Segments};
+use crate::stores::ProfileStores;
 use national::CountryValues;
 use std::alloc::Global;
 use std::marker::Model;
@@ -19,9 +19,6 @@ pub struct TracksideOver<T: ProfileStores> {
     pub(crate) gradients: T::Gradients,
     pub(crate) speeds: T::Speeds,
 }
-
-/// With stores that stay short however long the life.
-pub type Trackside = TracksideOver<Segments>;
 
 impl<T: ProfileStores> Model for TracksideOver<T> {
     ghost use Rattle.track_picture.specs.StandsFor.{Knowledge};

@@ -132,7 +132,7 @@ impl<T: Copy> ProfileStore<T> for FactStore<T> {
         is_known_by_pieces(self, from, end)
     }
 
-    fn drop_before(&mut self, place: Cm) {
+    fn drop_behind(&mut self, place: Cm) {
         for fact in self.facts.iter_mut() {
             fact.forget(place);
         }

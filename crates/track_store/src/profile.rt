@@ -147,7 +147,7 @@ pub trait ProfileStore<T>: Profile<T> {
         ensures { IsTrue result ↔ IsKnownThroughout (Self.value self.now) from end };
 
     /// Drops the values below a place, in centimetres, and no other ones. What comes there later counts.
-    fn drop_before(&mut self, place: Cm)
+    fn drop_behind(&mut self, place: Cm)
         ensures value { (there : ℤ) → Self.value self.new there ≡ from_mark place (Self.value self.old) there }
         ensures space { space self.new ≡ space self.old }
         ensures size { size self.new ≤ size self.old };

@@ -111,7 +111,7 @@ impl Restrictions {
     }
 
     /// Forgets all track before a place, in centimetres. What was forgotten before stays so.
-    pub fn drop_before(&mut self, mark: Cm)
+    pub fn drop_behind(&mut self, mark: Cm)
         ensures track { (entries : List RestrictionEntry) → self.old.track ≡ in_force entries
             → self.new.track ≡ in_force (Forgotten mark ∷ entries) }
         ensures space { self.new.space ≡ self.old.space }

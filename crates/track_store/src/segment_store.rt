@@ -136,7 +136,7 @@ impl<T: Copy + Same> ProfileStore<T> for SegmentStore<T> {
         all_known(&self.segments, from, end)
     }
 
-    fn drop_before(&mut self, place: Cm) {
+    fn drop_behind(&mut self, place: Cm) {
         drop_below(&mut self.segments, place);
     }
 

@@ -2,22 +2,26 @@
 ghost use Rattle.std.specs.Prelude.{◌≡◌};
 ghost use Rattle.unit_start.specs.Numbers.{open_number, open_name};
 
-use std::error::Error;
-use std::fmt;
+use thiserror::Error;
 
 /// Why no life began.
-#[derive(Clone, Copy, Debug)]
+#[derive(Clone, Copy, Debug, Error)]
 pub enum OpenError {
     /// The device failed in this call.
+    #[error("DeviceFault")]
     DeviceFault = 1,
     /// The first sector isn't that of a journal, or there is none. Nothing was written.
+    #[error("NotFormatted")]
     NotFormatted = 2,
     /// The number of sectors isn't that of the slots, or the block of the greatest number is no spelling. Nothing was
     /// written.
+    #[error("Damaged")]
     Damaged = 3,
     /// Memory was refused; nothing was written. `open` takes none, and so never answers it.
+    #[error("NoMemory")]
     NoMemory = 4,
     /// The block of the greatest number has the last number, 2^40; nothing was written.
+    #[error("WornOut")]
     WornOut = 6,
 }
 
@@ -42,12 +46,3 @@ impl OpenError {
         }
     }
 }
-
-/// Its name.
-impl fmt::Display for OpenError {
-    fn fmt<W: fmt::Write>(&self, f: &mut fmt::Formatter<W>) -> fmt::Result {
-        f.write_str(self.name())
-    }
-}
-
-impl Error for OpenError {}

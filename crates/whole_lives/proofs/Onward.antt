@@ -130,8 +130,8 @@ module _ (whole_from : ℕ) (s : List Event) (steps : List Step) (i : ℕ) (belo
       }
 
   -- a step failed
-  pub stopped : (new : State) → IsStepped whole_from x going.durable here mid new → (ran : Ran whole_from s steps old new [] given) × (ran.steps_taken ≡ i) × AreAfter s first ran.durable_at_end ran.accepted_at_end ran.released
-  stopped new step = (
+  pub stopped : (new : State) (out out' : List Released) → out' ≡ out ++ given → IsStepped whole_from x going.durable here mid new → (ran : Ran whole_from s steps old new out out') × (ran.steps_taken ≡ i) × AreAfter s first ran.durable_at_end ran.accepted_at_end ran.released
+  stopped new out out' is step = (
     record {
       at_each_moment = weaken old new (IsOfRun whole_from old.sectors s next) (IsOfRun whole_from old.sectors s steps) (all_run whole_from old.sectors s steps (i + 1)) (further new step);
       steps_taken = i;
@@ -141,7 +141,7 @@ module _ (whole_from : ℕ) (s : List Event) (steps : List Step) (i : ℕ) (belo
       accepted_at_end_is = refl;
       ready_at_end = step.ready_at_end;
       released = given;
-      out_is = refl;
+      out_is = is;
       released_is = going.released_is;
       reached = still new step given [] (sym (append-nil given));
     },

@@ -21,9 +21,9 @@ use Rattle.onboard.proofs.Resting.{rest_describes}
 use Rattle.whole_lives.proofs.Stepping.{quiet_step}
 
 -- all steps were taken
-pub finished : (whole_from : ℕ) (s : List Event) (steps : List Step) (i : ℕ) (old mid : State) (journal : Journal) (life : LifeState) (given : List Released)
-    → (going : Going whole_from s steps i old mid journal life given) → (ran : Ran whole_from s steps old mid [] given) × (ran.steps_taken ≡ i) × AreAfter s (take i steps) ran.durable_at_end ran.accepted_at_end ran.released
-finished whole_from s steps i old mid journal life given going = (
+pub finished : (whole_from : ℕ) (s : List Event) (steps : List Step) (i : ℕ) (old mid : State) (journal : Journal) (life : LifeState) (given out out' : List Released)
+    → out' ≡ out ++ given → (going : Going whole_from s steps i old mid journal life given) → (ran : Ran whole_from s steps old mid out out') × (ran.steps_taken ≡ i) × AreAfter s (take i steps) ran.durable_at_end ran.accepted_at_end ran.released
+finished whole_from s steps i old mid journal life given out out' is going = (
   record {
     at_each_moment = weaken old mid (IsOfRun whole_from old.sectors s (take i steps)) (IsOfRun whole_from old.sectors s steps) (all_run whole_from old.sectors s steps i) going.at_each_moment;
     steps_taken = i;
@@ -33,7 +33,7 @@ finished whole_from s steps i old mid journal life given going = (
     accepted_at_end_is = refl;
     ready_at_end = (quiet_step whole_from Flush journal going.durable (accepted_by s (take i steps)) going.ahead.more mid going.opened going.ahead.accepted_is).ready_at_end;
     released = given;
-    out_is = refl;
+    out_is = is;
     released_is = going.released_is;
     reached = going.reached;
   },
@@ -73,37 +73,14 @@ going_first whole_from s steps disk journal life opened ahead =
       reached = λ j most. (let zero_is : j ≡ 0 = omega (arith, most) in subst R (sym zero_is) first);
     }
 
--- what was released comes after what was there
-pub ran_onto : (whole_from : ℕ) (s : List Event) (steps : List Step) (old new : State) (out out' given : List Released) → out' ≡ out ++ given
-    → (ran : Ran whole_from s steps old new [] given) → (x : Ran whole_from s steps old new out out') × (x.steps_taken ≡ ran.steps_taken) × (x.durable_at_end ≡ ran.durable_at_end) × (x.accepted_at_end ≡ ran.accepted_at_end) × (x.released ≡ ran.released)
-ran_onto whole_from s steps old new out out' given is ran = (
-  record {
-    at_each_moment = ran.at_each_moment;
-    steps_taken = ran.steps_taken;
-    durable_at_end = ran.durable_at_end;
-    accepted_at_end = ran.accepted_at_end;
-    durable_at_end_is = ran.durable_at_end_is;
-    accepted_at_end_is = ran.accepted_at_end_is;
-    ready_at_end = ran.ready_at_end;
-    released = ran.released;
-    out_is = is ∙ ap (λ (l : List Released). out ++ l) ran.out_is;
-    released_is = ran.released_is;
-    reached = ran.reached;
-  },
-  refl,
-  refl,
-  refl,
-  refl,
-)
-
 -- a flush had no space: no device was called
-pub unflushed : (whole_from : ℕ) (s : List Event) (steps : List Step) (i : ℕ) (old mid new : State) (journal : Journal) (life : LifeState) (given : List Released) (error : LiveError)
-    → mid.sectors ≡ old.sectors → (going : Going whole_from s steps i old mid journal life given) → step_of error ≡ Some i → (IsTrue (is_full error) → new ≡ mid) → (ran : Ran whole_from s steps old new [] given) → ran.durable_at_end ≡ going.durable
-    → IsUnflushed {T = Unit {0}} whole_from (IsOfRun whole_from old.sectors s) steps (Err error) ran.durable_at_end old new
-unflushed whole_from s steps i old mid new journal life given error sectors going named same ran before_is = λ full k also.
+pub unflushed : (whole_from : ℕ) (s : List Event) (steps : List Step) (i : ℕ) (old mid new : State) (journal : Journal) (life : LifeState) (given : List Released) (error : LiveError) (durable_at_end : List Event)
+    → mid.sectors ≡ old.sectors → (going : Going whole_from s steps i old mid journal life given) → step_of error ≡ Some i → (IsTrue (is_full error) → new ≡ mid) → durable_at_end ≡ going.durable
+    → IsUnflushed {T = Unit {0}} whole_from (IsOfRun whole_from old.sectors s) steps (Err error) durable_at_end old new
+unflushed whole_from s steps i old mid new journal life given error durable_at_end sectors going named same before_is = λ full k also.
     let number : i ≡ k = (let e : Some i ≡ Some k = sym named ∙ also in cc) in
     let there = rest_describes whole_from journal going.durable mid going.opened in
-    let R : State → Type 0 = λ d. AtEachMoment old d (IsOfRun whole_from old.sectors s (take k steps)) × EachImage d (Describes whole_from old.sectors ran.durable_at_end) in
+    let R : State → Type 0 = λ d. AtEachMoment old d (IsOfRun whole_from old.sectors s (take k steps)) × EachImage d (Describes whole_from old.sectors durable_at_end) in
     let M : ℕ → Type 0 = λ n. AtEachMoment old mid (IsOfRun whole_from old.sectors s (take n steps)) in
     let D : ℕ → List Event → Type 0 = λ n l. EachImage mid (Describes whole_from n l) in
     subst R (sym (same full)) (subst M number going.at_each_moment, subst (λ (l : List Event). D old.sectors l) (sym before_is) (subst (λ (n : ℕ). D n going.durable) sectors there))

@@ -1,5 +1,5 @@
 -- Whole lives.
-use Rattle.std.proofs.Common.{◌≡◌, ◌⊎◌, inl, inr, ⊎_elim, ℕ, ◌<◌, ◌≤◌, arith, take, List, [], ◌∷◌, ◌++◌, refl, sym, ◌∙◌, ap, subst}
+use Rattle.std.proofs.Common.{◌≡◌, ◌⊎◌, inl, inr, ⊎_elim, ℕ, ◌<◌, ◌≤◌, arith, take, List, [], ◌∷◌, refl, sym, ◌∙◌, subst}
 use Rattle.std.proofs.lemmas.List.{append-nil}
 use Rattle.std.specs.Prelude.{Result, Ok, Err, OnOk}
 use Rattle.std.proofs.lemmas.Bool.{cases_lt}
@@ -116,29 +116,6 @@ module _ (whole_from : ℕ) (d a p : List Event) (cold recorded_cold : Cold) (st
 pub on_ok : {X E : Type 0} (r : Result X E) (P Q : Type 0) → (P → Q) → OnOk r P → OnOk r Q
 on_ok (Ok x) P Q so is = so is
 on_ok (Err e) P Q so is = is
-
--- what was released comes after what was there
-pub lives_onto : (whole_from : ℕ) (d a p : List Event) (cold recorded_cold : Cold) (steps : List Step) (old new : State) (out out' given : List Released) → out' ≡ out ++ given
-    → (lived : Lives whole_from d a p cold recorded_cold steps old new [] given) → (x : Lives whole_from d a p cold recorded_cold steps old new out out') × (x.steps_taken ≡ lived.steps_taken) × (x.durable_at_end ≡ lived.durable_at_end) × (x.accepted_at_end ≡ lived.accepted_at_end) × (x.released ≡ lived.released)
-lives_onto whole_from d a p cold recorded_cold steps old new out out' given is lived = (
-  record {
-    found_is = lived.found_is;
-    found_on_disk = lived.found_on_disk;
-    at_each_moment = lived.at_each_moment;
-    steps_taken = lived.steps_taken;
-    durable_at_end = lived.durable_at_end;
-    accepted_at_end = lived.accepted_at_end;
-    ready_at_end = lived.ready_at_end;
-    released = lived.released;
-    out_is = is ∙ ap (λ (l : List Released). out ++ l) lived.out_is;
-    cold_is = lived.cold_is;
-    unopened_or_opened = lived.unopened_or_opened;
-  },
-  refl,
-  refl,
-  refl,
-  refl,
-)
 
 -- what was durable is one list
 pub same_unflushed : {T : Type 0} (whole_from : ℕ) (Leave : List Step → (ℕ → List ℕ) → Type 0) (steps : List Step) (ended : Result T LiveError) (b b' : List Event) (old new : State) → b' ≡ b

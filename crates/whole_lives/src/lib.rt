@@ -4,7 +4,6 @@
 mod errors;
 mod laws;
 mod living;
-mod sink;
 mod steps;
 
 pub use errors::LiveError;
@@ -13,6 +12,5 @@ pub use laws::{
     commands_emergency_until_revalidated, forgets_across, formatted_is_ready, images_are_endless,
     lives_compose, one_cause, others_have_space, outlives_damage, releases_stay, stands_by,
 };
-pub use living::{live, live_into};
-pub use sink::ReleaseSink;
-pub use steps::{run, run_into};
+pub use living::live;
+pub use steps::run;

@@ -1,5 +1,5 @@
 //! Whole lives.
-ghost use Rattle.std.specs.Prelude.{◌≡◌, ◌≢◌, ℕ, false, ◌-◌, ◌<◌, [], ◌∷◌, List, Err, IsTrue, IfErr, vec_len, vec_capacity};
+ghost use Rattle.std.specs.Prelude.{◌≡◌, ◌≢◌, ℕ, false, ◌-◌, ◌<◌, ◌∷◌, List, Err, IsTrue, IfErr, vec_len, vec_capacity};
 ghost use Rattle.disk.specs.State.{now, contents_of, Counted, IsImage, AtEachMoment};
 ghost use Rattle.events.specs.Limits.{most_pending};
 ghost use Rattle.events.specs.declared.input.Event.{Event};
@@ -14,71 +14,16 @@ ghost use Rattle.whole_lives.specs.Written.{LeavesLast};
 ghost use Rattle.onboard.specs.declared.released.Released.{Released};
 
 use crate::errors::LiveError;
-use crate::sink::ReleaseSink;
-use crate::steps::run_into;
+use crate::steps::run;
 use disk::Disk;
 use events::Step;
 use mode_table::Cold;
 use onboard::{Onboard, OpenError, Released};
 use std::alloc::Global;
-use step_list::StepSource;
 
 /// One life (this project's profile): powers up on the disk, and takes the steps in order, up to the first error, whose
-/// step it names. What is released is handed to the sink as it is released. It hands the disk back. `cold` says whether
-/// the train moved without power; the caller owes that "not moved" is true.
-pub fn live_into<D: Disk, S: ReleaseSink, P: StepSource>(
-    alloc: Global,
-    disk: D,
-    cold: Cold,
-    steps: &P,
-    sink: &mut S,
-) -> (D, Result<(), LiveError>)
-    ensures counted { Counted (live_failed result.1) (D.state disk) (D.state result.0) }
-
-    // NoMemory comes only where the sink has no space for what a flush may release.
-    ensures full { IfErr result.1 (λ e. IsTrue (is_full e) → S.space sink.new < most_pending) }
-
-    // Whatever the disk does, an opening that is refused releases nothing, and takes no memory.
-    ensures unopened { (e : OpenError) → result.1 ≡ Err (LiveError.Open e) →
-        (sink.new ≡ sink.old) × (wants_memory e ≡ false) }
-
-    // Where no call failed, it leaves the images that the first sync settled.
-    ensures nothing_added { IsTrue (D.state disk).honest → (e : OpenError) → result.1 ≡ Err (LiveError.Open e) →
-        is_device e ≡ false →
-        AtEachMoment (D.state disk) (D.state result.0) (IsImage (now (D.state disk))) }
-
-    // Where it was opened, no refusal had a cause but the device.
-    ensures no_cause { IsTrue (D.state disk).honest → ((e : OpenError) → result.1 ≢ Err (LiveError.Open e)) →
-        HasNoCause (D.state disk).sectors (contents_of (D.state disk)) }
-
-    // The error names the first step that isn't carried out, or the opening, and its cause.
-    ensures stopped { LifeEnds (D.state disk) (P.listed steps.now) result.1 }
-
-    // Where power is lost and what is released, for every list of events that the disk represents.
-    ensures life { (whole_from : ℕ) (durable accepted : List Event) → IsTrue (D.state disk).honest →
-        IsReady whole_from durable accepted (D.state disk) →
-        (found : List Event) × (power_up_cold : Cold) × (released : List Released) × S.Gave sink.old released sink.new
-        × (lived : Lives whole_from durable accepted found cold power_up_cold (P.listed steps.now) (D.state disk)
-        (D.state result.0) [] released)
-        × IsDone (PowerUp power_up_cold ∷ found) (P.listed steps.now)
-        (OnlyOpens whole_from durable accepted found power_up_cold (D.state disk) (D.state result.0))
-        result.1 lived.steps_taken lived.durable_at_end lived.accepted_at_end lived.released
-        × IsUnflushed whole_from
-        (IsOfLife whole_from (D.state disk).sectors durable accepted found power_up_cold) (P.listed steps.now) result.1
-        lived.durable_at_end (D.state disk) (D.state result.0)
-        × LeavesLast found power_up_cold (P.listed steps.now) result.1 (D.state result.0) }
-{
-    match Onboard::open(alloc, disk, cold) {
-        Ok(unit) => {
-            let mut unit = unit;
-            let result = run_into(alloc, &mut unit, steps, sink);
-            (unit.close(), result)
-        }
-        Err((error, disk)) => (disk, Err(LiveError::Open(error))),
-    }
-}
-
-/// One life as by `live_into`; what is released goes to the end of a list, also where an error follows.
+/// step it names. What is released goes to the end of the list, also where an error follows. It hands the disk back.
+/// `cold` says whether the train moved without power; the caller owes that "not moved" is true.
 pub fn live<D: Disk>(
     alloc: Global,
     disk: D,
@@ -121,5 +66,12 @@ pub fn live<D: Disk>(
         lived.durable_at_end (D.state disk) (D.state result.0)
         × LeavesLast found power_up_cold steps.now result.1 (D.state result.0) }
 {
-    live_into(alloc, disk, cold, &steps, out)
+    match Onboard::open(alloc, disk, cold) {
+        Ok(unit) => {
+            let mut unit = unit;
+            let result = run(alloc, &mut unit, steps, out);
+            (unit.close(), result)
+        }
+        Err((error, disk)) => (disk, Err(LiveError::Open(error))),
+    }
 }

@@ -1,5 +1,5 @@
 //! The steps of a life.
-ghost use Rattle.std.specs.Prelude.{◌≡◌, ◌≢◌, ℕ, false, ◌-◌, ◌<◌, [], ◌∷◌, List, IsTrue, IfErr, OnOk, OnErr, None, Some, vec_len, vec_capacity};
+ghost use Rattle.std.specs.Prelude.{◌≡◌, ◌≢◌, ℕ, false, ◌-◌, ◌<◌, ◌∷◌, ◌++◌, List, length, get_or, IsTrue, IfErr, OnOk, OnErr, None, Some, vec_len, vec_capacity};
 ghost use Rattle.disk.specs.State.{contents_of, Counted};
 ghost use Rattle.events.specs.Limits.{most_pending};
 ghost use Rattle.events.specs.declared.input.Event.{Event};
@@ -15,18 +15,27 @@ ghost use Rattle.onboard.specs.declared.released.Released.{Released};
 ghost use Rattle.events.specs.declared.step.Step.TheVariants as a_step;
 
 use crate::errors::LiveError;
-use crate::sink::ReleaseSink;
 use disk::Disk;
-use events::{Input, Step};
+use events::{Input, MOST_PENDING, Step};
 use onboard::{Onboard, Released};
 use std::alloc::Global;
-use step_list::StepSource;
+
+// The step at a place, as an equal value.
+fn step_at(steps: &[Step], k: usize) -> Step
+    requires { k < length steps.now }
+    ensures { result ≡ get_or steps.now k result }
+{
+    match &steps[k] {
+        Step::Accept(input) => Step::Accept(input.copy()),
+        Step::Flush => Step::Flush,
+    }
+}
 
 // Flushes, once there is space for what may be released.
-fn flush_into<D: Disk, S: ReleaseSink>(
+fn flush_onto<D: Disk>(
     unit: &mut Onboard<D>,
     k: usize,
-    sink: &mut S,
+    out: &mut Vec<Released>,
 ) -> Result<(), LiveError>
     ensures counted { Counted (live_failed result) (D.state unit.old.disk) (D.state unit.new.disk) }
     ensures stepped { (whole_from : ℕ) (durable accepted : List Event) → IsTrue (D.state unit.old.disk).honest →
@@ -41,21 +50,22 @@ fn flush_into<D: Disk, S: ReleaseSink>(
         IsLastWritten (D.state unit.old.disk).sectors earlier durable (contents_of (D.state unit.old.disk)) →
         OnOk result (IsLastWritten (D.state unit.new.disk).sectors (earlier_one earlier durable accepted a_step.Flush)
         accepted (contents_of (D.state unit.new.disk))) }
-    ensures released { OnOk result (S.Gave sink.old unit.old.life.pairs sink.new) }
-    ensures nothing { OnErr result (S.Gave sink.old [] sink.new) }
-    ensures full { IfErr result (λ e. IsTrue (is_full e) → (S.space sink.new < most_pending) × (unit.new ≡ unit.old)) }
+    ensures released { OnOk result (out.new.items ≡ out.old.items ++ unit.old.life.pairs) }
+    ensures nothing { OnErr result (out.new.items ≡ out.old.items) }
+    ensures full { IfErr result (λ e. IsTrue (is_full e) →
+        (vec_capacity out.new - vec_len out.new < most_pending) × (unit.new ≡ unit.old)) }
     ensures named { IfErr result (λ e. step_of e ≡ Some k) }
     ensures stood { OnOk result (Stands (progress_of unit.old.journal unit.old.life) a_step.Flush
         × (progress_of unit.new.journal unit.new.life
         ≡ go_on (progress_of unit.old.journal unit.old.life) a_step.Flush)) }
     ensures stopped { IfErr result (StopsAt (progress_of unit.old.journal unit.old.life) k a_step.Flush) }
 {
-    if sink.make_space().is_err() {
+    if out.reserve(MOST_PENDING).is_err() {
         return Err(LiveError::NoMemory(k));
     }
     match unit.flush() {
         Ok(pairs) => {
-            sink.give(pairs.as_slice());
+            let _space = out.extend_from_slice(pairs.as_slice());
             Ok(())
         }
         Err(error) => Err(LiveError::Flush(k, error)),
@@ -95,19 +105,19 @@ fn accept_one<D: Disk>(
     }
 }
 
-fn take<D: Disk, S: ReleaseSink>(
+fn take<D: Disk>(
     alloc: Global,
     unit: &mut Onboard<D>,
     k: usize,
     step: Step,
-    sink: &mut S,
+    out: &mut Vec<Released>,
 ) -> Result<(), LiveError>
     ensures counted { Counted (live_failed result) (D.state unit.old.disk) (D.state unit.new.disk) }
     ensures stepped { (whole_from : ℕ) (durable accepted : List Event) → IsTrue (D.state unit.old.disk).honest →
         IsOpen unit.old.journal (account_of whole_from durable) (D.state unit.old.disk) →
         IsAhead durable accepted unit.old.life →
         IsStepped whole_from step durable accepted (D.state unit.old.disk) (D.state unit.new.disk)
-        × OnOk result ((released : List Released) × S.Gave sink.old released sink.new
+        × OnOk result ((released : List Released) × (out.new.items ≡ out.old.items ++ released)
         × Took whole_from durable accepted step unit.new.journal unit.new.life (D.state unit.new.disk) released) }
     ensures last { (whole_from : ℕ) (earlier durable accepted : List Event) → IsTrue (D.state unit.old.disk).honest →
         IsOpen unit.old.journal (account_of whole_from durable) (D.state unit.old.disk) →
@@ -115,8 +125,9 @@ fn take<D: Disk, S: ReleaseSink>(
         IsLastWritten (D.state unit.old.disk).sectors earlier durable (contents_of (D.state unit.old.disk)) →
         OnOk result (IsLastWritten (D.state unit.new.disk).sectors (earlier_one earlier durable accepted step)
         (flush_one durable accepted step) (contents_of (D.state unit.new.disk))) }
-    ensures nothing { OnErr result (S.Gave sink.old [] sink.new) }
-    ensures full { IfErr result (λ e. IsTrue (is_full e) → (S.space sink.new < most_pending) × (unit.new ≡ unit.old)) }
+    ensures nothing { OnErr result (out.new.items ≡ out.old.items) }
+    ensures full { IfErr result (λ e. IsTrue (is_full e) →
+        (vec_capacity out.new - vec_len out.new < most_pending) × (unit.new ≡ unit.old)) }
     ensures named { IfErr result (λ e. step_of e ≡ Some k) }
     ensures stood { OnOk result (Stands (progress_of unit.old.journal unit.old.life) step
         × (progress_of unit.new.journal unit.new.life ≡ go_on (progress_of unit.old.journal unit.old.life) step)) }
@@ -127,51 +138,15 @@ fn take<D: Disk, S: ReleaseSink>(
             Ok(()) => Ok(()),
             Err(error) => Err(error),
         },
-        Step::Flush => match flush_into(unit, k, sink) {
+        Step::Flush => match flush_onto(unit, k, out) {
             Ok(()) => Ok(()),
             Err(error) => Err(error),
         },
     }
 }
 
-/// Takes the steps in order, up to the first error, whose step it names, and hands on what is released as it is
-/// released (this project's profile).
-pub fn run_into<D: Disk, S: ReleaseSink, P: StepSource>(
-    alloc: Global,
-    unit: &mut Onboard<D>,
-    steps: &P,
-    sink: &mut S,
-) -> Result<(), LiveError>
-    ensures counted { Counted (live_failed result) (D.state unit.old.disk) (D.state unit.new.disk) }
-    ensures full { IfErr result (λ e. IsTrue (is_full e) → S.space sink.new < most_pending) }
-    ensures stopped { StepsEnd (progress_of unit.old.journal unit.old.life) (P.listed steps.now) result }
-    ensures named { IfErr result (λ e. step_of e ≢ None) }
-    ensures ran { (whole_from : ℕ) (initial : List Event) → IsTrue (D.state unit.old.disk).honest →
-        IsOpen unit.old.journal (account_of whole_from initial) (D.state unit.old.disk) →
-        IsAhead initial initial unit.old.life →
-        (released : List Released) × S.Gave sink.old released sink.new
-        × (ended_run : Ran whole_from initial (P.listed steps.now) (D.state unit.old.disk) (D.state unit.new.disk) [] released)
-        × IsDone initial (P.listed steps.now) ⊥ result ended_run.steps_taken ended_run.durable_at_end ended_run.accepted_at_end ended_run.released
-        × IsUnflushed whole_from (IsOfRun whole_from (D.state unit.old.disk).sectors initial) (P.listed steps.now) result
-        ended_run.durable_at_end
-        (D.state unit.old.disk) (D.state unit.new.disk) }
-    ensures last { (whole_from : ℕ) (earlier initial : List Event) → IsTrue (D.state unit.old.disk).honest →
-        IsOpen unit.old.journal (account_of whole_from initial) (D.state unit.old.disk) →
-        IsAhead initial initial unit.old.life →
-        IsLastWritten (D.state unit.old.disk).sectors earlier initial (contents_of (D.state unit.old.disk)) →
-        OnOk result (IsLastWritten (D.state unit.new.disk).sectors (earlier_by earlier initial initial (P.listed steps.now))
-        (durable_by initial (P.listed steps.now)) (contents_of (D.state unit.new.disk))) }
-{
-    for k in 0..steps.count() {
-        match take(alloc, unit, k, steps.step(k), sink) {
-            Ok(()) => {}
-            Err(error) => return Err(error),
-        }
-    }
-    Ok(())
-}
-
-/// The same, with the same errors; what is released goes to the end of a list.
+/// Takes the steps in order, up to the first error, whose step it names. What is released goes to the end of the list,
+/// also where an error follows (this project's profile).
 pub fn run<D: Disk>(
     alloc: Global,
     unit: &mut Onboard<D>,
@@ -181,6 +156,7 @@ pub fn run<D: Disk>(
     ensures counted { Counted (live_failed result) (D.state unit.old.disk) (D.state unit.new.disk) }
     ensures full { IfErr result (λ e. IsTrue (is_full e) → vec_capacity out.new - vec_len out.new < most_pending) }
     ensures stopped { StepsEnd (progress_of unit.old.journal unit.old.life) steps.now result }
+    ensures named { IfErr result (λ e. step_of e ≢ None) }
     ensures ran { (whole_from : ℕ) (initial : List Event) → IsTrue (D.state unit.old.disk).honest →
         IsOpen unit.old.journal (account_of whole_from initial) (D.state unit.old.disk) →
         IsAhead initial initial unit.old.life →
@@ -197,5 +173,11 @@ pub fn run<D: Disk>(
         OnOk result (IsLastWritten (D.state unit.new.disk).sectors (earlier_by earlier initial initial steps.now)
         (durable_by initial steps.now) (contents_of (D.state unit.new.disk))) }
 {
-    run_into(alloc, unit, &steps, out)
+    for k in 0..steps.len() {
+        match take(alloc, unit, k, step_at(steps, k), out) {
+            Ok(()) => {}
+            Err(error) => return Err(error),
+        }
+    }
+    Ok(())
 }

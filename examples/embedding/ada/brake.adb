@@ -53,7 +53,8 @@ procedure Brake is
          16#B0#, 16#0D#, 16#90#, 16#00#, 16#10#, 16#00#, 16#0D#, 16#C0#, 16#3A#, 16#40#, 16#00#, 16#20#, 16#80#, 16#1F#, 16#E0#));
       Identity (Our, "IC 704");
       Act (Our, Etcs_C.Choose_Level_1);
-      Data (Our, (20_000, 160_000, 70, 0, 15));
+      --  (the reaction time is 0 only here: no real brakes act at once)
+      Data (Our, (20_000, 160_000, 70, Reaction_Ms => 0, Category => Etcs_C.Category_None));
       Act (Our, Etcs_C.Start);
    end Make_Ready;
 

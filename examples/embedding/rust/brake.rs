@@ -3,7 +3,9 @@
 //!     ETCS_UNIT_LIB=PREFIX/lib cargo run --offline --bin brake
 use std::convert::Infallible;
 
-use etcs_unit::{command, format, Action, Brake, Cold, Error, Journal, Medium, Mode, Output, Refused, Status, TrainData, Unit, SECTOR};
+use etcs_unit::{
+    command, format, Action, Brake, Cold, Error, Journal, Medium, Mode, Output, Refused, Status, TrainData, Unit, CATEGORY_NONE, SECTOR,
+};
 
 const SLOTS: u32 = 64;
 const CYCLE_MS: u64 = 500;
@@ -74,7 +76,9 @@ fn make_ready(unit: &mut Unit<Memory>) -> Result<(), Refused> {
     ])?;
     unit.identity("IC 704")?;
     unit.action(Action::ChooseLevel1)?;
-    unit.train_data(&TrainData { length_cm: 20_000, maximum_m_per_h: 160_000, deceleration_cm_per_s2: 70, reaction_ms: 0, category: 15 })?;
+    // (the reaction time is 0 only here: no real brakes act at once)
+    let (reaction_ms, category) = (0, CATEGORY_NONE);
+    unit.train_data(&TrainData { length_cm: 20_000, maximum_m_per_h: 160_000, deceleration_cm_per_s2: 70, reaction_ms, category })?;
     unit.action(Action::Start)
 }
 

@@ -58,7 +58,7 @@ def play_campaign(given: SimpleNamespace, progress: "Progress") -> int:
     """Runs `lab campaign`."""
     if given.folder is None and not given.random:
         raise Failed("campaign: a FOLDER or --random N is required", WRONG_WORDS)
-    out = files.Out(given.csv, files.CAMPAIGN_TABLE, given.force) if given.csv else None
+    out = files.Out(given.csv, given.force) if given.csv else None
     files.check_all([out] if out else [], [given.out], [given.out])
     jobs: campaign.Folder | list[campaign.Job] = campaign.Folder(given.folder, SLOTS if given.slots is None else given.slots, given.replay) if given.folder else []
     if given.folder and not len(jobs):

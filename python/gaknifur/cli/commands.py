@@ -197,7 +197,7 @@ VERSION = click.Option(["--version"], is_flag=True, is_eager=True, expose_value=
 IMAGE = Argument("image", "IMAGE", "a journal image")
 BOOK = Argument("book", "BOOK.yaml", "a line book")
 ALL = option("--all other_blocks", "include readable blocks outside the journal; column `source` marks them")
-FORCE = option("--force", "overwrite files that lab made (no option overwrites others)")
+FORCE = option("--force", "overwrite an existing file, but never a journal image")
 JSON = option("--json", "print JSON")
 JSON_LINES = option("--json", "print one JSON object per line")
 TIMES = [option("--times", "marks of the time of day (default: IMAGE.times, if it exists)", "FILE", PATH),
@@ -367,7 +367,7 @@ SIMULATION = [
             "The unit is the library that `tools/library PREFIX` makes; GAKNIFUR_ETCS_UNIT names its .so.", "drive drive.yaml --picture drive.svg",
             Argument("yaml", "FILE.yaml", "a scenario with a drive"), option("--csv", "write one row per time step", "OUT.csv", PATH),
             option("--picture", "draw speed and limit over the place (.svg or .png)", "OUT", PATH),
-            option("--image", "keep the journal here; an existing image gets one more life", "IMAGE", PATH),
+            option("--image", "keep the journal here; an image that `lab drive` made gets one more life: IMAGE.identity says \"unit: lab drive\"", "IMAGE", PATH),
             option("--scenario", "write the inputs of the unit as a scenario for `etcs run`", "OUT.json", PATH), FORCE,
             option("--build-up", 'print instead a table of this drive with each of these brake build-up times, such as "0 s, 1 s, 2 s"', "TIMES")),
     Command("campaign", "simulation", "cli.campaign_commands:play_campaign", "Run many scenarios, case files or random lives into one table",
@@ -380,7 +380,7 @@ SIMULATION = [
             option("--replay", "run each scenario with `etcs run` on a file, and examine and replay its image"),
             JOBS, option("--scheduler", "use this Dask scheduler instead of local processes", "tcp://HOST:PORT"),
             option("--csv", "write the whole table at the end", "OUT.csv", PATH),
-            option("--force", "overwrite a CSV that lab made (no option overwrites others)")),
+            FORCE),
     Command("compare", "simulation", "cli.campaign_commands:compare_campaigns", "List the rows that differ between two campaigns",
             "Seconds and workers aren't compared. Status 4: rows differ.", "compare monday.db friday.db",
             Argument("first", "ONE.db", "a table of `lab campaign`"), Argument("second", "OTHER.db", "the table to compare it with"))]

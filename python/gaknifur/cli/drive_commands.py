@@ -8,6 +8,7 @@ from types import SimpleNamespace
 
 from .. import files
 from ..escaping import shown
+from ..evidence import identity
 from ..journal.reading import Progress
 from ..program import DEVICE, REFUSED, WRONG_WORDS, Failed
 from ..simulation import drives, driving
@@ -96,13 +97,28 @@ def print_build_ups(path: Path, build_ups: list[str], progress: Progress) -> Non
 
 # ---- the command
 
+UNIT = "lab drive"
+"""The unit in the identity of an image that a drive made. Only such an image gets a further life."""
+
+
+def is_there(path: Path, drive: Drive) -> bool:
+    """Whether an image exists to which a drive adds a life. Refuses one that no drive made."""
+    found, whose = files.is_there(path, [drive.at.path]), identity.of(path)
+    if (found or whose) and (whose is None or whose.unit != UNIT):
+        raise files.refused(path, f"isn't an image that `lab drive` made, since {shown(identity.path_of(path))} doesn't say \"unit: {UNIT}\", "
+                            "so no life is added to it. Name a new file. Nothing was changed.")
+    return found
+
+
 def on_file(path: Path, scenario: scenarios.Scenario, drive: Drive) -> driving.Driven:
-    """Runs a life on the image of a file. Creates a missing image, with its first life. Continues an existing one under its
-    lock, with each write and sync that the unit requests, so that a loss of power loses no released event."""
+    """Runs a life on the image of a file. Creates a missing image, with its first life and its identity. Continues an existing one
+    under its lock, with each write and sync that the unit requests, so that a loss of power loses no released event."""
     try:
-        if not files.is_there(path, [drive.at.path]):
+        if not is_there(path, drive):
             driven, data = over_image(fresh(scenario, drive), scenario, drive)
             files.write_new(path, data)
+            if identity.of(path) is None:
+                files.write_new(identity.path_of(path), f"unit: {UNIT}\n".encode())
             return driven
         with FileMedium(path) as medium:
             return on_medium(medium, scenario, drive)
@@ -114,18 +130,6 @@ def on_file(path: Path, scenario: scenarios.Scenario, drive: Drive) -> driving.D
         raise Failed(f"{path}: {error.strerror}", DEVICE) from error
 
 
-PICTURES = {".svg": files.SVG, ".png": files.PNG}
-
-
-def picture_kind(path: Path | None) -> files.Kind | None:
-    """The kind of a picture, by its suffix."""
-    if path is None:
-        return None
-    if path.suffix not in PICTURES:
-        raise Failed(f"--picture: the file name has to end in .svg or .png, not in \"{path.suffix}\"", WRONG_WORDS)
-    return PICTURES[path.suffix]
-
-
 def picture(driven: driving.Driven, name: str, suffix: str) -> bytes:
     """The picture of a drive. (matplotlib takes a second to load, which other drives needn't.)"""
     from ..simulation import drive_picture
@@ -134,10 +138,10 @@ def picture(driven: driving.Driven, name: str, suffix: str) -> bytes:
 
 def outs_of(given: SimpleNamespace) -> dict[str, files.Out]:
     """The output files of a drive, by their options; checked before the drive begins."""
-    kinds = {"csv": files.DRIVE_TABLE, "scenario": scenarios.FILE, "picture": picture_kind(given.picture)}
-    outs = {name: files.Out(path, kind, given.force) for name, kind in kinds.items()
-            if (path := getattr(given, name)) and kind}
-    images = [given.image] if given.image else []
+    if given.picture and given.picture.suffix not in (".svg", ".png"):
+        raise Failed(f"--picture: the file name has to end in .svg or .png, not in \"{given.picture.suffix}\"", WRONG_WORDS)
+    outs = {name: files.Out(path, given.force) for name in ("csv", "scenario", "picture") if (path := getattr(given, name))}
+    images = [given.image, identity.path_of(given.image)] if given.image else []
     files.check_all(outs.values(), [given.yaml, *images], images)
     return outs
 

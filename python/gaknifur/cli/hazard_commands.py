@@ -33,8 +33,8 @@ def check(given: SimpleNamespace) -> None:
         raise Failed(f"--alphabet {given.alphabet}: has to be one of {', '.join(ALPHABETS)}", WRONG_WORDS)
     if not any(given.track in one.name for one in hazard_tracks.TRACKS):
         raise Failed(f"--track: no track's name has this text; the tracks: {', '.join(one.name for one in hazard_tracks.TRACKS)}", WRONG_WORDS)
-    if given.keep and given.keep.exists() and (not given.keep.is_dir() or any(given.keep.iterdir())):
-        raise Failed(f"--keep {given.keep}: already exists and isn't an empty folder. Nothing was searched.", REFUSED)
+    if given.keep and (given.keep.exists() or given.keep.is_symlink()):
+        raise Failed(f"--keep {given.keep}: already exists; name a new folder. Nothing was searched.", REFUSED)
 
 
 def explained(kind: Kind) -> str:

@@ -53,9 +53,9 @@ def write(out: files.Out | None, text: str | bytes | Iterable[str], source: Path
         files.write(out, text, [source])
 
 
-def out_of(given: SimpleNamespace, kind: files.Kind, source: Path) -> files.Out | None:
+def out_of(given: SimpleNamespace, source: Path) -> files.Out | None:
     """The output file of a command, if any. It is checked before the work begins."""
-    out = files.Out(given.out, kind, given.force) if given.out is not None else None
+    out = files.Out(given.out, given.force) if given.out is not None else None
     files.check_all([out] if out else [], [source])
     return out
 
@@ -64,12 +64,13 @@ def write_table(given: SimpleNamespace, progress: Progress) -> int:
     """Runs `lab table`."""
     if given.damaged and given.other_blocks:
         raise Failed("--damaged can't be combined with --all", WRONG_WORDS)
-    if given.out is not None and given.out.suffix == ".parquet":
-        raise Failed(f"{given.out}: Parquet isn't supported; use a name that ends in .csv or .xlsx", WRONG_WORDS)
-    is_book = given.out is not None and given.out.suffix == ".xlsx"
+    suffix = given.out.suffix.lower() if given.out is not None else ""
+    if suffix not in ("", ".csv", ".xlsx"):
+        raise Failed(f"{given.out}: the name has to end in .csv or .xlsx", WRONG_WORDS)
+    is_book = suffix == ".xlsx"
     if is_book and not find_spec("openpyxl"):
         raise Failed("openpyxl is missing; tools/python installs it by Debian's packages", DEVICE)
-    out = out_of(given, files.WORKBOOK if is_book else files.TABLE, given.image)
+    out = out_of(given, given.image)
     journal = read(given.image, other_blocks=given.other_blocks, replay=True, why=not given.damaged, progress=progress,
                    strays=given.damaged)
     take_times(journal, given)
@@ -84,7 +85,7 @@ def write_timeline(given: SimpleNamespace, progress: Progress) -> int:
     """Runs `lab timeline`."""
     if given.out is not None and given.out.suffix not in (".csv", ".jsonl"):
         raise Failed(f"{given.out}: the name has to end in .csv or .jsonl", WRONG_WORDS)
-    out = out_of(given, files.TIMELINE, given.image)
+    out = out_of(given, given.image)
     journal = read(given.image, replay=True, progress=progress)
     take_times(journal, given)
     from ..evidence import timeline
@@ -128,7 +129,7 @@ def write_report(given: SimpleNamespace, progress: Progress) -> int:
     """Runs `lab report`."""
     from ..journal.extent import Extent, bound
     extent = Extent(bound(given.first) if given.first else None, bound(given.last) if given.last else None, given.life)
-    out = out_of(given, files.REPORT, given.image)
+    out = out_of(given, given.image)
     part = None if marks_need_all(given) else extent.part
     journal = read(given.image, replay=True, why=True, progress=progress, strays=True, part=part)
     take_times(journal, given)
@@ -188,7 +189,7 @@ def write_dissector(given: SimpleNamespace, progress: Progress) -> None:
     """Runs `lab dissector`."""
     from ..wireshark import dissector
     if given.out:
-        files.write(files.Out(given.out, dissector.LUA, given.force), dissector.lua())
+        files.write(files.Out(given.out, given.force), dissector.lua())
     else:
         sys.stdout.write(dissector.lua())
 
@@ -196,7 +197,7 @@ def write_dissector(given: SimpleNamespace, progress: Progress) -> None:
 def write_capture(given: SimpleNamespace, progress: Progress) -> int:
     """Runs `lab capture`."""
     from ..wireshark import dissector
-    out = files.Out(given.out, dissector.CAPTURE, given.force)
+    out = files.Out(given.out, given.force)
     files.check_all([out], [given.image])
     journal = read(given.image, replay=True, progress=progress)
     data, count = dissector.capture(journal)

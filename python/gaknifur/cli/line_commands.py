@@ -14,7 +14,7 @@ def check_line(given: SimpleNamespace, progress: Progress) -> int:
     """Runs `lab line check`."""
     from ..line import book, findings
     from ..testing.lint import status_of
-    out = files.Out(given.html, files.REPORT, given.force) if given.html else None
+    out = files.Out(given.html, given.force) if given.html else None
     files.check_all([out] if out else [], [given.book])
     found = book.read(given.book)
     checked = findings.check(found, progress)
@@ -49,7 +49,7 @@ def convert_table(given: SimpleNamespace, progress: Progress) -> int:
 
     from ..line import book, tables
     from ..testing import sequences
-    out = files.Out(given.out, files.beginning("a line book made of a table", tables.MADE.encode()), given.force) if given.out else None
+    out = files.Out(given.out, given.force) if given.out else None
     files.check_all([out] if out else [], [given.table, given.mapping])
     mapping = tables.mapping(given.mapping)
     made = tables.book_of(mapping, sequences.table(given.table, mapping.columns))

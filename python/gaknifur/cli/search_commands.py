@@ -10,6 +10,7 @@ from typing import Any
 from .. import files
 from ..escaping import shown
 from ..journal.reading import Json, Progress
+from ..journal.wording import MODES
 from ..program import DEVICE, FOUND, REFUSED, WRONG_WORDS, Failed, naming
 from ..testing import case_runner, properties
 from ..testing.properties import Property, PropertyFile, Violated
@@ -18,6 +19,8 @@ from ..yaml_files import BadFile
 from . import unit_commands
 
 EXAMPLES, MOST_EXAMPLES, SEEDS = 200, 100_000, 1 << 32
+FEW_JUDGED = 100
+"""A property that holds for fewer records of random scenarios is called thin."""
 NEEDED = {"powerup": (), "telegram": (), "odometer": ("movement_cm", "speed_m_per_h"), "clock": (),
           "driver": ("action",)}
 RECORD = ("event", "life", "kind", "time_ms", "mode", "level", "brake", "indications", "place_cm", "uncertainty_cm",
@@ -74,10 +77,12 @@ def records_of(path: Path) -> list[Json]:
     return properties.derived(case_runner.with_speeds(found))
 
 
-def report_held(one: Property, judged: int, where: str) -> bool:
-    """Reports a property that no record breaks. Returns whether it was never judged although it doesn't say why that may be."""
+def report_held(one: Property, judged: int, where: str = "") -> bool:
+    """Reports a property that no record breaks; `where`: of how many random scenarios, of which few records show little. Returns whether it
+    was never judged although it doesn't say why that may be."""
     why = f"; {one.unjudged}" if one.unjudged and not judged else ""
-    print(f"{'holds' if judged else 'unjudged'}: {one.note}: {judged} records judged{where}{why}", flush=True)
+    result = "unjudged" if not judged else "thin" if where and judged < FEW_JUDGED else "holds"
+    print(f"{result}: {one.note}: {judged} records judged{where}{why}", flush=True)
     return not judged and one.unjudged is None
 
 
@@ -91,7 +96,7 @@ def judge_records(wanted: list[Property], records: list[Json]) -> int:
             wrong += 1
             print(f"broken: {one.note}\n{indented(str(violated))}")
             continue
-        wrong += report_held(one, judged, "")
+        wrong += report_held(one, judged)
     return wrong
 
 
@@ -148,8 +153,8 @@ def check(given: SimpleNamespace) -> None:
         raise Failed(f"--seed: has to be 0 to {SEEDS - 1}", WRONG_WORDS)
     if given.records and (given.against or given.keep):
         raise Failed("--records can't be combined with --against or --keep", WRONG_WORDS)
-    if given.keep and given.keep.exists() and (not given.keep.is_dir() or any(given.keep.iterdir())):
-        raise Failed(f"--keep {given.keep}: already exists and isn't an empty folder. Nothing was run.", REFUSED)
+    if given.keep and (given.keep.exists() or given.keep.is_symlink()):
+        raise Failed(f"--keep {given.keep}: already exists; name a new folder. Nothing was run.", REFUSED)
     unit_commands.within_of(given.answer_within)
     if given.against:
         words_of(given.against)
@@ -172,6 +177,7 @@ def search(given: SimpleNamespace, progress: Progress) -> int:
     print(f"seed {seed}, {given.examples} scenarios", flush=True)
     wrong = 0
     all_started = searching.survey(wanted, made, records, given.examples, seed, 1 if given.against else given.jobs)
+    print(f"records by mode: {', '.join(f'{mode} {records.modes[mode]:,}' for mode in MODES)}", flush=True)
     for one, name, started in zip(wanted, names, all_started, strict=True):
         if started.first is None:
             wrong += report_held(one, started.found.judged, f" of {started.found.scenarios} scenarios")

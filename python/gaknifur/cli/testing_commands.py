@@ -24,7 +24,7 @@ if TYPE_CHECKING:
 def write_scenario(given: SimpleNamespace, progress: Progress) -> None:
     """Runs `lab build`."""
     from ..testing import scenarios
-    out = out_of(given, scenarios.FILE, given.yaml)
+    out = out_of(given, given.yaml)
     write(out, scenarios.read(given.yaml).text(), given.yaml)
 
 
@@ -102,10 +102,10 @@ def run_tests(given: SimpleNamespace, progress: Progress) -> None:
     for word in given.others:
         if word.partition("=")[0] in WRITING:
             raise Failed(f"pytest's {word} isn't supported here, since it overwrites files", WRONG_WORDS)
-    from ..testing import measured_coverage, reached_plugin
-    out = files.Out(given.junitxml, files.JUNIT, given.force) if given.junitxml else None
-    reached = files.Out(given.reached, measured_coverage.FILE, given.force) if given.reached else None
-    files.check_all([one for one in (out, reached) if one])
+    from ..testing import reached_plugin
+    out = files.Out(given.junitxml, given.force) if given.junitxml else None
+    reached = files.Out(given.reached, given.force) if given.reached else None
+    files.check_all([one for one in (out, reached) if one], [given.folder])
     root = given.folder if given.folder.is_dir() else given.folder.parent
     selected = [f"--{name}={one}" for name in ("section", "feature") for one in getattr(given, name)]
     how = [f"--jobs={given.jobs}"] + ([f"--keep={given.keep}"] if given.keep else []) + (["--replay"] if given.replay else [])
@@ -132,7 +132,7 @@ def run_tests(given: SimpleNamespace, progress: Progress) -> None:
 def write_results(given: SimpleNamespace, progress: Progress) -> int:
     """Runs `lab results`."""
     from ..testing import results_page
-    out = files.Out(given.out, files.REPORT, given.force)
+    out = files.Out(given.out, given.force)
     files.check_all([out], given.paths)
     text, failed = results_page.page(given.paths)
     files.write(out, text, given.paths)
@@ -180,8 +180,7 @@ def run_sweep(given: SimpleNamespace, progress: Progress) -> None:
     """Runs `lab sweep`."""
     from ..simulation.closed_loop import check_library
     from ..testing import sweeps
-    outs = {name: files.Out(path, kind, given.force) for name, kind in (("csv", files.SWEEP_TABLE), ("html", files.REPORT))
-            if (path := getattr(given, name))}
+    outs = {name: files.Out(path, given.force) for name in ("csv", "html") if (path := getattr(given, name))}
     files.check_all(outs.values(), [given.yaml])
     program.find("etcs"), program.find()  # once, before the processes are split
     sweep = sweeps.read(given.yaml)
@@ -211,7 +210,7 @@ def check_cases(text: str, folder: Path) -> None:
 def sequence(given: SimpleNamespace, progress: Progress) -> int:
     """Runs `lab sequence`."""
     from ..testing import sequences
-    out = files.Out(given.out, sequences.FILE, given.force) if given.out else None
+    out = files.Out(given.out, given.force) if given.out else None
     files.check_all([out] if out else [], [given.table, given.mapping])
     mapping = sequences.mapping(given.mapping)
     made = sequences.cases_of(mapping, sequences.table(given.table, mapping.columns), given.table.stem)

@@ -3,6 +3,7 @@
 An image is added whole or not at all. One that the database already contains, by its SHA-256, is left as it is.
 """
 import json
+import re
 import sqlite3
 from collections.abc import Iterable, Iterator, Sequence
 from dataclasses import asdict
@@ -44,6 +45,11 @@ def schema() -> str:
     return (Path(__file__).parent / "schema.sql").read_text(encoding="utf-8")
 
 
+ALTERED = "SELECT 1 FROM sqlite_master WHERE type = 'trigger' OR type = 'view' AND lower(name) IN ({})".format(
+    ", ".join(f"'{name}'" for name in re.findall(r"CREATE TABLE (\w+)", schema())))
+"""Whether a database has what would run when its tables are used, perhaps for ever."""
+
+
 def fill(connection: sqlite3.Connection) -> None:
     """Fills a new database with its tables and views, and the texts of causes."""
     connection.executescript(schema())
@@ -58,12 +64,14 @@ def open_database(path: str | Path, images: Iterable[Path] = ()) -> sqlite3.Conn
     try:
         connection.execute("PRAGMA foreign_keys = ON")
         version = connection.execute("PRAGMA user_version").fetchone()[0]
-    except sqlite3.Error as error:
+        altered = connection.execute(ALTERED).fetchone()
+    except (sqlite3.Error, UnicodeError) as error:
         connection.close()
         raise Failed(f"{path}: {error}", DEVICE) from error
-    if version != VERSION:
+    if version != VERSION or altered:
         connection.close()
-        raise Failed(f"{path}: is not a database of journals of version {VERSION}", REFUSED)
+        wrong = "has a trigger, or a view in place of a table" if altered else f"is not a database of journals of version {VERSION}"
+        raise Failed(f"{path}: {wrong}", REFUSED)
     return connection
 
 
@@ -97,7 +105,7 @@ def add(connection: sqlite3.Connection, journal: Journal, table: pd.DataFrame) -
     except BaseException as error:
         if connection.in_transaction:
             connection.execute("ROLLBACK")
-        if isinstance(error, sqlite3.Error):
+        if isinstance(error, (sqlite3.Error, UnicodeError)):
             raise Failed(f"{journal.path}: can't be added: {error}", DEVICE) from error
         raise
     return not found

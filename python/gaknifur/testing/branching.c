@@ -1,5 +1,5 @@
 /* The onboard unit for a search that goes back to earlier states: all that the unit keeps, with its medium, is in one
- * struct, which is copied out and put back at the same address. Links with libetcs_unit_static.a. No file is opened. */
+ * struct, which is copied out and put back at the same address. Links with libetcs_unit_no_malloc.a. No file is opened. */
 #include <string.h>
 
 #include "etcs_memory.h"

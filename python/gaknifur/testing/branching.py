@@ -100,9 +100,9 @@ def input_of(step: Step) -> Input:
 
 def compiled(folder: Path) -> Path:
     """The unit for searches, compiled in a folder."""
-    archive = Path(os.environ.get("GAKNIFUR_ETCS_UNIT", "/")).resolve().parent / "libetcs_unit_static.a"
+    archive = Path(os.environ.get("GAKNIFUR_ETCS_UNIT", "/")).resolve().parent / "libetcs_unit_no_malloc.a"
     if not archive.is_file():
-        raise Failed("a search of states needs libetcs_unit_static.a of the onboard unit next to the library that GAKNIFUR_ETCS_UNIT names. "
+        raise Failed("a search of states needs libetcs_unit_no_malloc.a of the onboard unit next to the library that GAKNIFUR_ETCS_UNIT names. "
                      "Make both with `tools/library --unproved PREFIX` (two to three minutes, without proof) or `tools/library PREFIX`, and set "
                      "GAKNIFUR_ETCS_UNIT=PREFIX/lib/libetcs_unit.so", DEVICE)
     made = folder / "branching.so"

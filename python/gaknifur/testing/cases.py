@@ -12,6 +12,7 @@ from pathlib import Path
 from typing import Any
 
 from ..journal.wording import INDICATIONS, MODES
+from ..program import REFUSED, AllFailed, Failed
 from ..simulation import drives
 from ..yaml_files import Value, documents, shortened
 from . import decoding, scenarios
@@ -336,11 +337,21 @@ def case_of(at: Value, known: dict[Path, scenarios.Shared]) -> Case:
 
 
 def read(path: Path) -> list[Case]:
-    """The cases of a file."""
+    """The cases of a file. Refuses it with the first fault of each document."""
     known: dict[Path, scenarios.Shared] = {}
     read_documents = documents(path)
     decoding.decode_ahead(read_documents)
-    found = [case_of(document, known) for document in read_documents]
+    found: list[Case] = []
+    faults: list[Failed] = []
+    for document in read_documents:
+        try:
+            found.append(case_of(document, known))
+        except Failed as failed:
+            if failed.status != REFUSED:
+                raise
+            faults.append(failed)
+    if faults:
+        raise faults[0] if len(faults) == 1 else AllFailed(faults)
     names = Counter(case.name for case in found)
     for case in found:
         if names[case.name] > 1:

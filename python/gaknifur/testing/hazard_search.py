@@ -30,7 +30,6 @@ from .yaml_text import quoted
 
 Kind = tuple[str, Mode, str]
 """A hazard, the mode in which it comes, and the weak point that explains it; none is empty."""
-FILE = files.beginning("a search for hazards", b'{"hazards": ')
 MOST_STATES = 1_500_000
 """The most states that one process remembers; then it forgets all, and merges less."""
 MOST_ENDS = 20_000
@@ -294,7 +293,7 @@ class Search:
         """Searches the parts that aren't done, until time is over."""
         left, inputs, since = [one for one in parts if one not in self.results], 0, time.monotonic()
         if self.file:
-            files.write(files.Out(self.file, FILE, is_forced=True), [self.head(), *(one.line() for one in self.results.values())])
+            files.write(files.Out(self.file, is_forced=True), [self.head(), *(one.line() for one in self.results.values())])
         given = (self.library, self.wanted, time.monotonic() + self.seconds, self.merges, self.tracks)
         with multiprocessing.get_context("fork").Pool(self.jobs, start, given) as pool:
             for result in pool.imap(walk, left):

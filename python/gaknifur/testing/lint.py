@@ -256,6 +256,7 @@ def lint(given: SimpleNamespace, progress: Progress) -> int:
             if failed.status != REFUSED:
                 raise
             refused = True
-            say(str(failed))
+            for message in failed.messages():
+                say(message)
     sys.stdout.flush()
     return REFUSED if refused else status_of(found)

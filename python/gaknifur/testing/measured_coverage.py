@@ -24,8 +24,6 @@ FLOORS = "measured.yaml"
 ALL = "all"
 TOGETHER = 16
 """The greatest number of cases that run in one process."""
-HEAD = b'{"reached_by": '
-FILE = files.beginning("what cases reach", HEAD)
 Sets = dict[str, list[str]]
 """The members that a case reaches, by set."""
 ByCase = dict[str, Sets]
@@ -88,7 +86,7 @@ def play_all(cases: list[Case], jobs: int = PROCESSORS, progress: Progress = sil
 
 def text_of(found: ByCase) -> str:
     """The text of the file."""
-    return HEAD.decode() + json.dumps(found, ensure_ascii=False, indent=1) + "}\n"
+    return '{"reached_by": ' + json.dumps(found, ensure_ascii=False, indent=1) + "}\n"
 
 
 def read(path: Path) -> ByCase:

@@ -46,8 +46,8 @@ def pytest_configure(config: pytest.Config) -> None:
     except Failed as failed:
         raise pytest.UsageError(str(failed)) from None
     folder = folder_of(config)
-    if folder and folder.exists() and (not folder.is_dir() or any(folder.iterdir())):
-        raise pytest.UsageError(f"--keep {folder}: already exists and isn't an empty folder")
+    if folder and (folder.exists() or folder.is_symlink()):
+        raise pytest.UsageError(f"--keep {folder}: already exists; name a new folder")
 
 
 def folder_of(config: pytest.Config) -> Path | None:

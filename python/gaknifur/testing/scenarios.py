@@ -11,8 +11,8 @@ from decimal import Context, Decimal
 from pathlib import Path
 from typing import Any
 
-from .. import files, program
-from ..yaml_files import MOST_DIGITS, Value, document, shortened
+from .. import program
+from ..yaml_files import MOST_DIGITS, MOST_SHOWN, Value, document, guess, shortened
 from . import decoding, telegrams
 
 COLD = {"unknown": 0, "moved": 1, "not_moved": 2}
@@ -36,6 +36,10 @@ UNITS: dict[str, dict[str, Decimal]] = {
 EXACT = Context(prec=2 * MOST_DIGITS)
 """Calculates with the longest numbers without rounding."""
 QUANTITY = re.compile(r"(-?[0-9][0-9_]*(?:\.[0-9]+)?)\s*([a-z][a-z0-9/]*)")
+VARIABLE = re.compile(r"[A-Z]_[A-Z_0-9]+\s+[0-9]")
+"""A variable of a telegram with its number."""
+MOST_TRIED_BITS = 7
+"""The bits of a variable whose numbers are tried one by one, where a telegram is refused."""
 DEPTH, MOST_STEPS = 16, 100_000
 """How deep parts use one another and files include one another; the most steps of a life, with each `use` and mark."""
 
@@ -63,18 +67,6 @@ class Scenario:
         groups = ",".join("\n    " + json.dumps(group) for group in self.groups)
         steps = ",".join("\n    " + json.dumps(step) for step in self.steps)
         return f'{{\n  {head}"groups": [{groups}{chr(10) + "  " if groups else ""}],\n  "steps": [{steps}\n  ]\n}}\n'
-
-
-def is_built(data: bytes) -> bool:
-    """Whether bytes are a scenario that `text` wrote."""
-    try:
-        members = json.loads(data)
-        return Scenario(members.get("cold", 0), members["groups"], members["steps"]).text().encode() == data
-    except (ValueError, TypeError, KeyError, AttributeError, RecursionError):
-        return False
-
-
-FILE = files.Kind("a scenario", is_built, is_whole=True)
 
 
 @dataclass
@@ -149,7 +141,9 @@ def digits_of(at: Value, shared: Shared) -> str:
         if is_hex(text):
             return checked_size(text.upper(), at)
         if "NID_BG" not in text:
-            raise at.fault(f"no telegram is called \"{shortened(text)}\"; defined: {', '.join(sorted(shared.telegrams)) or 'none'}")
+            if VARIABLE.search(text):
+                raise at.fault("NID_BG is missing: a telegram begins with its header, such as \"NID_BG 2; 12: V_MAIN 24, L_ENDSECTION 300\"")
+            raise at.fault(f"no telegram is called \"{shortened(text)}\"; {guess(text[:MOST_SHOWN], shared.telegrams)}")
         return written(text, at, None)
     members = at.members((), ("fields", "refused", "installed"))
     if "installed" in members:
@@ -212,10 +206,38 @@ def written(text: str, at: Value, refused: str | None) -> str:
 def compare(telegram: telegrams.Telegram, found: list[str], at: Value) -> None:
     """Refuses a telegram if `etcs decode` finds another one."""
     if found[0].startswith("refused"):
-        raise at.fault(f"etcs decode says of this telegram: {found[0]}")
+        wrong = wrong_variable(telegram) if found[0].endswith(("Spare", "OutOfRange")) else ""
+        raise at.fault(f"etcs decode says of this telegram: {found[0]}{wrong}")
     for wanted, line in zip(telegram.lines(), found[:-1], strict=False):
         if line != wanted:
             raise at.fault(f"etcs decode finds another telegram: {line}; the scenario says {wanted}")
+
+
+def wrong_variable(telegram: telegrams.Telegram) -> str:
+    """The variable without whose number `etcs decode` takes the telegram, and the numbers that it takes; nothing if there isn't exactly one
+    such variable of few bits."""
+    lists = [telegram.header, *telegram.packets]
+    for at, pairs in enumerate(lists):
+        for place, (name, number) in enumerate(pairs):
+            if (width := telegrams.width_of(name)) > MOST_TRIED_BITS:
+                continue
+
+            def takes(other: int, at: int = at, place: int = place) -> bool:
+                changed = [list(one) for one in lists]
+                changed[at][place] = (changed[at][place][0], other)
+                return not program.decode(telegrams.Telegram(changed[0], changed[1:]).digits)[0].startswith("refused")
+
+            if takes(int(number == 0)):
+                where = f"packet {pairs[0][1]}: " if at else ""
+                return f"; {where}{name} {number} is not allowed, only {ranges([one for one in range(1 << width) if takes(one)])}"
+    return ""
+
+
+def ranges(numbers: list[int]) -> str:
+    """Some numbers in their order, neighbours as a range."""
+    begins = [one for one in numbers if one - 1 not in numbers]
+    ends = [one for one in numbers if one + 1 not in numbers]
+    return ", ".join(f"{first} to {last}" if first < last else str(first) for first, last in zip(begins, ends, strict=True))
 
 
 class Builder:
@@ -336,7 +358,7 @@ def action_of(word: str, value: Value) -> list[Any]:
     if word == "enter_identity":
         text = value.text()
         if not re.fullmatch("[ -~]{1,16}", text):
-            raise value.fault("an identity has 1 to 16 printable characters")
+            raise value.fault(f"an identity has 1 to 16 printable ASCII characters, found {value.describe()}")
         return [1, text]
     if word == "enter_running_number":
         return [2, value.integer(0, 99_999_999)]

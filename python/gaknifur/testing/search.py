@@ -6,6 +6,7 @@ test case.
 """
 import contextlib
 import json
+from collections import Counter
 from collections.abc import Callable, Iterator, Sequence
 from dataclasses import dataclass, field
 from pathlib import Path
@@ -107,6 +108,8 @@ class Player:
     def __init__(self, other: Other | None) -> None:
         self.other = other
         self.kept: dict[Lives, list[Json]] = {}
+        self.modes = Counter[str]()
+        """How many records of the surveyed scenarios have each mode."""
 
     def __call__(self, scenarios: Lives) -> list[Json]:
         """The records of a scenario, with the other unit's answers if there is one."""
@@ -221,13 +224,15 @@ def survey(wanted: list[Property], made: Made, records: Player, examples: int, s
     over_lives(made, examples, seed, (Phase.generate,), meet)
     many = list(met)
 
-    def judged(part: range) -> list[list[int | None]]:
+    def judged(part: range) -> tuple[list[list[int | None]], Counter[str]]:
         some = many[part.start:part.stop]
         records.play(some)
-        return [[judged_by(one, records(scenarios)) for one in wanted] for scenarios in some]
+        modes = Counter(record["mode"] for scenarios in some for record in records(scenarios))
+        return [[judged_by(one, records(scenarios)) for one in wanted] for scenarios in some], modes
 
     searches, parts = [Search(one, records) for one in wanted], processes.parts_of(len(many), jobs, TOGETHER)
-    for part, found in zip(parts, processes.each(judged, parts, jobs)):
+    for part, (found, modes) in zip(parts, processes.each(judged, parts, jobs)):
+        records.modes += modes
         for at, counts in zip(part, found):
             for search, count in zip(searches, counts):
                 search.take(many[at], count)

@@ -23,7 +23,6 @@ from .yaml_text import flow, quoted
 COLUMNS = ("step", "interface", "action")
 MORE_COLUMNS = ("expected", "sequence")
 MADE = "# Made by ./lab sequence of "
-FILE = files.beginning("test cases made of a table", MADE.encode())
 MOST_BYTES, MOST_ROWS = 1 << 26, 100_000
 
 

@@ -30,8 +30,10 @@ TELEGRAMS = {
     "shunting": f"NID_BG 13; 12: V_MAIN 24, L_ENDSECTION 1000; {TRACK}; 80: D_MAMODE 100, M_MAMODE 1, V_MAMODE 127, "
                 "L_MAMODE 32767, L_ACKMAMODE 100",
     "stop": "NID_BG 14; 12: V_MAIN 0, L_ENDSECTION 100",
+    "on_sight_here": f"NID_BG 15; 12: V_MAIN 24, L_ENDSECTION 1000; {TRACK}; 80: D_MAMODE 0, M_MAMODE 0, V_MAMODE 6, "
+                     "L_MAMODE 300, L_ACKMAMODE 0",
 }
-"""The default telegrams: a life that begins ready has heard one of the first two."""
+"""The default telegrams."""
 WAYS_CM, BACK_CM = (100, 1_000, 5_000, 10_000), (100, 300)
 SPEEDS, BACK_SPEED = (5_000, 20_000, 40_000, 90_000), 1_000
 WAITS_MS = (1_000, 5_000, 60_000)
@@ -60,23 +62,30 @@ class Made:
     """The name and the variables of each telegram, by its digits."""
 
 
-def ready(telegram: str, train: list[int]) -> list[Step]:
-    """The steps that make a train ready: an authority, the identity, level 1, the train data, and the start."""
-    return [{"telegram": telegram}, *({"driver": action} for action in ([1, "IC 704"], [4, 1], [3, *train], [6]))]
+def ready(train: list[int], level: int = 1, last: int = 6) -> list[Step]:
+    """The steps that make a train ready: the identity, the level, the train data, and the start (6) or the choice of Shunting (7)."""
+    return [{"driver": action} for action in ([1, "IC 704"], [4, level], [3, *train], [last])]
 
 
-def begins_of(digits: list[str], train: list[int]) -> list[list[Step]]:
-    """The ways in which a life begins: ready with either authority, tripped after 100 m, and in Unfitted."""
-    short, long = (ready(one, train) for one in digits[:2])
-    return [short, long, [*short, *({"drive": movement} for movement in ([10_000, 20_000], [5_000, 20_000], [0, 0]))],
-            [{"driver": action} for action in ([1, "IC 704"], [4, 0], [3, *train], [6])]]
+def begins_of(digits: dict[str, str], train: list[int]) -> list[list[Step]]:
+    """The ways in which a life begins: in Full Supervision with either authority, tripped after 100 m, in Unfitted, Staff Responsible,
+    Shunting, Post Trip, and On Sight."""
+    short, long, here = ([{"telegram": digits[name]}, *ready(train)] for name in ("authority_100", "authority_1000", "on_sight_here"))
+    stand: Step = {"drive": [0, 0]}
+    tripped = [*short, {"drive": [10_000, 20_000]}, {"drive": [5_000, 20_000]}, stand]
+    return [short, long, tripped, ready(train, 0), ready(train), ready(train, last=7), [*tripped, {"driver": [10, ACKNOWLEDGED["trip"]]}],
+            [*here, stand]]
 
 
 def usual() -> Made:
     """What scenarios are made of by default."""
     texts = {telegrams.telegram(text).digits: (name, text) for name, text in TELEGRAMS.items()}
-    digits = list(texts)
-    return Made(digits, begins_of(digits, TRAIN), texts=texts)
+    return Made(list(texts), begins_of(digits_by_name(), TRAIN), texts=texts)
+
+
+def digits_by_name() -> dict[str, str]:
+    """The digits of the default telegrams."""
+    return {name: telegrams.telegram(text).digits for name, text in TELEGRAMS.items()}
 
 
 # ---- what a file says
@@ -118,7 +127,7 @@ def made_of(at: Value | None, shared: Shared) -> Made:
         made.texts, made.telegrams = made.texts | texts, list(texts)
     if "trains" in members:
         made.trains = [scenarios.train_of(one) for one in members["trains"].elements()] or [TRAIN]
-        made.begins = [one for train in made.trains for one in begins_of(list(usual().texts), train)]
+        made.begins = [one for train in made.trains for one in begins_of(digits_by_name(), train)]
     if "begins" in members:
         made.begins = [steps_of(one, shared) for one in members["begins"].elements()]
     if "ways" in members:

@@ -10,7 +10,7 @@ variables. A packet that the kernel skips has the layout of docs/reference/packe
 variables after it.
 """
 import re
-from collections.abc import Iterator, Sequence
+from collections.abc import Iterable, Iterator, Sequence
 from dataclasses import dataclass, field
 
 from ..yaml_files import guess, shortened
@@ -267,14 +267,36 @@ def bits_of(pairs: Pairs) -> str:
     return "".join(f"{number:0{WIDTH[name]}b}" for name, number in pairs)
 
 
-def pairs_of(text: str) -> Pairs:
-    """The names and numbers of a text."""
+def all_names(layout: Sequence[Part]) -> set[str]:
+    """The variables of a layout, those of its lists too."""
+    found = set[str]()
+    for part in layout:
+        if isinstance(part, str):
+            found.add(part)
+        elif isinstance(part, Repeated):
+            found |= {part.counter, *all_names(part.element)}
+        else:
+            found |= {part.name, *all_names(part.parts)}
+    return found
+
+
+def names_of(packet: int, of_track: bool) -> set[str]:
+    """The variables of a packet; all that there are if it has no layout."""
+    layout = LAYOUTS.get(packet)
+    if layout is None or of_track:
+        layout = OF_TRACK.get(packet, layout)
+    return set(WIDTH) if layout is None else {*HEAD, *all_names(layout)}
+
+
+def pairs_of(text: str, names: Iterable[str], what: str) -> Pairs:
+    """The names and numbers of a text about `what`, which has these names."""
     found = []
     for one in filter(None, map(str.strip, text.split(","))):
         if not re.fullmatch(r"[A-Z][A-Z_0-9]*\s+[0-9]{1,20}", one):
             raise Wrong(f"\"{shortened(one)}\" is no variable with a number")
         name, number = one.split()
-        width_of(name)
+        if name not in WIDTH:
+            raise Wrong(f"{what} has no {name}; {guess(name, names)}")
         found.append((name, int(number)))
     return found
 
@@ -335,7 +357,7 @@ def telegram(text: str, of_track: bool = False) -> Telegram:
     if len(text) > MOST_TEXT:
         raise Wrong(f"a telegram is written in at most {MOST_TEXT:,} characters, and this has {len(text):,}")
     first, *rest = text.split(";")
-    pairs = pairs_of(first)
+    pairs = pairs_of(first, HEADER, "the header")
     header: dict[str, int | None] = dict(HEADER)
     for name, number in pairs:
         if name not in HEADER:
@@ -350,5 +372,6 @@ def telegram(text: str, of_track: bool = False) -> Telegram:
         number_text, _, body = one.strip().partition(":")
         if not re.fullmatch("[0-9]{1,3}", number_text.strip()) or int(number_text) > END_MARK:
             raise Wrong(f"\"{shortened(one.strip())}\" begins with no number of a packet")
-        packets.append(packet_pairs(int(number_text), pairs_of(body), of_track))
+        number = int(number_text)
+        packets.append(packet_pairs(number, pairs_of(body, names_of(number, of_track), f"packet {number}"), of_track))
     return Telegram([(name, number or 0) for name, number in header.items()], packets)

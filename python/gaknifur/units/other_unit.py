@@ -15,7 +15,7 @@ from typing import Self
 
 from ..journal.reading import Json
 from ..program import DEVICE, WRONG_WORDS, Failed
-from .protocol import MOST_LINE, PROTOCOL, Greeting, Wrong, checked, greeting_of, line_of, short
+from .protocol import MOST_LINE, PROTOCOL, TOO_LONG, Greeting, Wrong, checked, greeting_of, line_of, short
 from .sandbox import Confined
 
 WITHIN_S = 10.0
@@ -178,7 +178,7 @@ class OtherUnit:
         while True:
             line, end, rest = streams.received.partition(b"\n")
             if len(line) >= MOST_LINE:
-                raise self.broken(f"{where}: a line of more than {MOST_LINE:,} bytes")
+                raise self.broken(f"{where}: {TOO_LONG}")
             if end and not streams.unsent:
                 streams.received = rest
                 return line

@@ -97,11 +97,13 @@ class OwnUnit:
 
 def answered(own: OwnUnit, line: bytes, is_first: bool) -> Json:
     """The answer to a line: the greeting to the first line, then answers to events."""
+    if len(line) > protocol.MOST_LINE:
+        raise protocol.Wrong(protocol.TOO_LONG)
     message = protocol.object_of(line)
     if is_first:
-        if message.get("protocol") != protocol.PROTOCOL:
-            raise protocol.Wrong(f"the protocol {message.get('protocol')}, and this one is {protocol.PROTOCOL}")
+        protocol.check_version(message)
         return {"protocol": protocol.PROTOCOL, "unit": f"Gaknifur {unit.version()}", "members": list(protocol.ANSWER)}
+    protocol.check_event(message)
     return own.answer(message)
 
 
@@ -109,10 +111,10 @@ def serve(into: BinaryIO, out: BinaryIO) -> None:
     """Answers each line until there are no more."""
     own = OwnUnit()
     try:
-        for number, line in enumerate(into):
+        for number, line in enumerate(iter(lambda: into.readline(protocol.MOST_LINE + 1), b"")):
             try:
                 answer = answered(own, line, number == 0)
-            except (protocol.Wrong, unit.Refused, KeyError, TypeError, ValueError) as error:
+            except (protocol.Wrong, unit.Refused, KeyError, ValueError) as error:
                 reason = f"{error} is missing or unknown" if isinstance(error, KeyError) else str(error)
                 raise Failed(f"serve: line {number + 1}: {reason}", REFUSED) from error
             out.write(protocol.line_of(answer).encode())

@@ -22,7 +22,12 @@ DONE = {"enter_identity": ("identity",), "enter_running_number": ("running_numbe
         "enter_train_data": ("length_cm", "maximum_m_per_h", "category", "deceleration_cm_per_s2", "reaction_ms"),
         "confirm": ("confirmed",), "acknowledge": ("acknowledged",)}
 """The members of each kind of event, and of each action of the driver."""
+TEXTS = ("kind", "word", "telegram", "action", "identity", "confirmed", "acknowledged")
+"""The members of an event that are texts. All others are whole numbers."""
 MOST_LINE, MOST_NAME, MOST_SHOWN = 65_536, 200, 120
+
+
+TOO_LONG = f"a line of more than {MOST_LINE:,} bytes"
 
 
 class Wrong(Exception):
@@ -38,6 +43,16 @@ def event_of(record: Json) -> Json:
     """The message for a record: all but the answer."""
     names = ("life", "event", "kind", *CAME[record["kind"]], *DONE.get(record.get("action", ""), ()))
     return {name: record[name] for name in names}
+
+
+def check_event(event: Json) -> None:
+    """Refuses an event of another kind, or with a member of another type."""
+    names = ("life", "event", "kind", *sum((*CAME.values(), *DONE.values()), ()))
+    for name, value in event.items():
+        if name in names and not (isinstance(value, str) if name in TEXTS else is_number(value)):
+            raise Wrong(f"{name} {short(json.dumps(value))}, which isn't {'a text' if name in TEXTS else 'a whole number'}")
+    if event.get("kind") not in CAME:
+        raise Wrong(f"kind {short(json.dumps(event.get('kind')))}, which isn't one of {', '.join(CAME)}")
 
 
 def answer_of(record: Json, members: tuple[str, ...]) -> Json:
@@ -124,12 +139,17 @@ class Greeting:
         return tuple(name for name in ANSWER if name not in self.members)
 
 
+def check_version(found: Json) -> None:
+    """Refuses a greeting of another version."""
+    if type(found["protocol"]) is not int or found["protocol"] != PROTOCOL:
+        raise Wrong(f"the protocol {short(json.dumps(found['protocol']))}, and this one is {PROTOCOL}")
+
+
 def greeting_of(line: bytes) -> Greeting:
     """The greeting on a line."""
     found = object_of(line)
     check_members(found, ("protocol", "unit", "members"))
-    if type(found["protocol"]) is not int or found["protocol"] != PROTOCOL:
-        raise Wrong(f"the protocol {short(json.dumps(found['protocol']))}, and this one is {PROTOCOL}")
+    check_version(found)
     unit, members = found["unit"], found["members"]
     if not isinstance(unit, str) or not 1 <= len(unit) <= MOST_NAME:
         raise Wrong(f"a unit whose name isn't a text of 1 to {MOST_NAME} characters")

@@ -1,8 +1,8 @@
 """Confine a unit under test: a session of its own, limits of the system, and a sandbox if bubblewrap is available.
 
 The limits hold for each of its processes, and are set after the process starts and before the unit's program does. The sandbox
-(`bwrap`) has its own processes and no network; it sees all files, and can write only to a small folder in memory, which TMPDIR
-names. docs/reference/unit-protocol.md lists the limits.
+(`bwrap`) has its own processes, few environment variables and no network. It sees the files of the system without those of running
+and temporary programs, and can write only to a small folder in memory. docs/reference/unit-protocol.md lists the limits.
 """
 import contextlib
 import errno
@@ -23,6 +23,8 @@ MEMORY, SANDBOX = "GAKNIFUR_UNIT_MEMORY", "GAKNIFUR_UNIT_SANDBOX"
 MEMORY_MIB, FILE_MIB, OPEN_FILES, PROCESSES = 4_096, 64, 256, 256
 """Address space of a process, greatest file, open files, and processes and threads in addition to the system's current ones."""
 SCRATCH_MIB = 64
+TEMPORARY = ("/run", "/tmp", "/var/run", "/var/tmp")
+PASSED_ON = ("PATH", "LANG")
 PROC = Path("/proc")
 
 
@@ -69,11 +71,42 @@ def limiting() -> Callable[[], None]:
     return limit
 
 
-def sandbox(scratch: Path) -> list[str]:
+def own_variables() -> dict[str, str]:
+    """The environment variables that a unit in a sandbox gets, besides TMPDIR."""
+    return {name: value for name, value in os.environ.items() if name in PASSED_ON or name.startswith("GAKNIFUR_")}
+
+
+def hidden_folders() -> set[Path]:
+    """The folders with the sockets and temporary files of this machine, without links."""
+    names = (*TEMPORARY, tempfile.gettempdir(), os.environ.get("XDG_RUNTIME_DIR", ""))
+    return {Path(os.path.realpath(name)) for name in names if os.path.isabs(name) and os.path.isdir(name)} - {Path("/")}
+
+
+def needed_files(words: Sequence[str]) -> set[str]:
+    """The files and folders that a command and its environment name, and the current folder."""
+    names = {os.getcwd(), *(shutil.which(word) or word for word in words[:1]), *words[1:], *own_variables().values()}
+    return {path for name in names if os.path.exists(name) for path in (os.path.abspath(name), os.path.realpath(name))}
+
+
+def mounts(words: Sequence[str]) -> dict[Path, str]:
+    """How each hidden folder and each needed one inside those is mounted. Of a file its folder is needed, unless that one is hidden."""
+    hidden = hidden_folders()
+    found = dict.fromkeys(hidden, "--tmpfs")
+    for path in sorted(file if file.is_dir() or file.parent in hidden else file.parent for file in map(Path, needed_files(words))):
+        if next((found[one] for one in path.parents if one in found), "") == "--tmpfs":
+            found.setdefault(path, "--ro-bind")
+    return found
+
+
+def sandbox(scratch: Path, words: Sequence[str]) -> list[str]:
     """The options of bubblewrap."""
-    size = ["--size", str(SCRATCH_MIB * MIB), "--tmpfs"]
-    return ["--unshare-all", "--die-with-parent", "--ro-bind", "/", "/", "--proc", "/proc", "--dev", "/dev",
-            *size, "/dev/shm", "--remount-ro", "/dev", *size, str(scratch), "--setenv", "TMPDIR", str(scratch)]
+    size, over = ["--size", str(SCRATCH_MIB * MIB), "--tmpfs"], sorted(mounts(words).items())
+    options = ["--unshare-all", "--die-with-parent", "--ro-bind", "/", "/", "--proc", "/proc", "--dev", "/dev",
+               *size, "/dev/shm", "--remount-ro", "/dev"]
+    for path, how in over:
+        options += [how, str(path), str(path)] if how == "--ro-bind" else [how, str(path)]
+    options += [*size, str(scratch), "--setenv", "TMPDIR", str(scratch)]
+    return options + [word for path, how in over if how == "--tmpfs" for word in ("--remount-ro", str(path))]
 
 
 @functools.cache
@@ -83,7 +116,7 @@ def bubblewrap() -> str | None:
     if path is None:
         return None
     with tempfile.TemporaryDirectory(prefix="gaknifur-") as scratch:
-        done = subprocess.run([path, *sandbox(Path(scratch)), "true"], stdin=subprocess.DEVNULL, capture_output=True)
+        done = subprocess.run([path, *sandbox(Path(scratch), ["true"]), "true"], stdin=subprocess.DEVNULL, capture_output=True)
     return path if done.returncode == 0 else None
 
 
@@ -110,12 +143,13 @@ class Confined:
             raise Failed("--against: a unit under test is run on Linux only", DEVICE)
         self.scratch = tempfile.TemporaryDirectory(prefix="gaknifur-") if is_sandboxed() else None
         try:
-            command = list(words)
+            command, environment = list(words), None
             if self.scratch is not None:
                 check_program(command[0])
-                command = [str(bubblewrap()), *sandbox(Path(self.scratch.name)), "--", *words]
+                command = [str(bubblewrap()), *sandbox(Path(self.scratch.name), words), "--", *words]
+                environment = own_variables()  # (not by --clearenv: bubblewrap's own process would still show the others)
             self.process = subprocess.Popen(command, stdin=subprocess.PIPE, stdout=subprocess.PIPE, stderr=subprocess.PIPE,
-                                            start_new_session=True, bufsize=0, preexec_fn=limiting())
+                                            start_new_session=True, bufsize=0, preexec_fn=limiting(), env=environment)
         except BaseException:
             self.give_back()
             raise

@@ -6,16 +6,13 @@ docs/howto/wireshark.md explains how to use both.
 """
 import struct
 
-from .. import files
 from ..journal.reading import Journal
 from ..testing import _track_packets
 from ..testing.telegrams import END_MARK, HEADER, LAYOUTS, WIDTH, WITHOUT_SCALE, Part, Repeated, Where
 
 USER0, MOST_CAPTURED = 147, 65_535
 MADE = "-- Made by ./lab dissector: "
-LUA = files.beginning("a dissector", MADE.encode())
 PCAP_HEAD = struct.pack("<IHHiIII", 0xA1B2C3D4, 2, 4, 0, 0, MOST_CAPTURED, USER0)
-CAPTURE = files.beginning("a capture of telegrams", PCAP_HEAD)
 
 PROGRAM = """\
 local balise = Proto("etcs_balise", "ETCS balise telegram")

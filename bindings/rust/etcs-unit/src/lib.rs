@@ -28,6 +28,8 @@ pub use sys::etcs_unit_why_info as Why;
 
 /// The bytes of a sector.
 pub const SECTOR: usize = sys::ETCS_UNIT_SECTOR as usize;
+/// The category of a train that is of none; 0 is a category.
+pub const CATEGORY_NONE: u32 = sys::ETCS_CATEGORY_NONE;
 const OUTPUTS: usize = sys::ETCS_UNIT_OUTPUTS as usize;
 const REQUEST_BYTES: usize = sys::ETCS_UNIT_REQUEST_BYTES as usize;
 
@@ -44,6 +46,8 @@ pub enum Error<E> {
     Refused(Status),
     /// The medium failed.
     Medium(E),
+    /// The medium has a journal: a format leaves it as it is.
+    HasJournal,
     /// The unit answered a number that this crate doesn't know.
     Unknown(u32),
 }
@@ -53,6 +57,7 @@ impl<E: fmt::Display> fmt::Display for Error<E> {
         match self {
             Error::Refused(status) => write!(to, "the unit answered {}", status.name()),
             Error::Medium(why) => write!(to, "the medium failed: {why}"),
+            Error::HasJournal => write!(to, "the medium has a journal, and was left as it is"),
             Error::Unknown(number) => write!(to, "the unit answered {number}, which is unknown"),
         }
     }
@@ -137,8 +142,21 @@ fn carry_out<M: Medium>(medium: &mut M, request: &sys::etcs_unit_request_info, b
     done.map_err(Error::Medium)
 }
 
-/// Makes an empty journal of so many slots on a medium of 1 + 6 * slots sectors.
+/// Makes an empty journal of so many slots on a medium of 1 + 6 * slots sectors. Where its first sector is that of a journal it
+/// answers [`Error::HasJournal`], and nothing was changed: so it may be called before each power-up.
 pub fn format<M: Medium>(medium: &mut M, slots: u32) -> Result<(), Error<M::Error>> {
+    let (mut first, mut facts) = ([0; SECTOR], sys::etcs_image::default());
+    medium.read(0, &mut first).map_err(Error::Medium)?;
+    // SAFETY: both places are good for what they point to.
+    match unsafe { sys::etcs_image_facts_(first.as_ptr(), first.len() as u64, sys::ETCS_UNIT_ABI, &mut facts) } {
+        sys::ETCS_UNIT_OK => Err(Error::HasJournal),
+        sys::ETCS_UNIT_IMAGE_NOT_FORMATTED => wipe(medium, slots),
+        status => check(status),
+    }
+}
+
+/// The same, whatever the medium holds: all events of a journal there are lost. Never call it at a power-up.
+pub fn wipe<M: Medium>(medium: &mut M, slots: u32) -> Result<(), Error<M::Error>> {
     let (mut request, mut bytes) = (sys::etcs_unit_request_info::default(), [0; SECTOR]);
     for index in 0.. {
         // SAFETY: both places are good for what they point to.

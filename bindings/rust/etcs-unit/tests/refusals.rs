@@ -1,5 +1,5 @@
 //! What a unit answers that is called wrongly, or whose medium fails; and what its build says of itself.
-use etcs_unit::{build_info, build_proof, command, format, Action, Brake, Cold, Error, Level, Medium, Mode, Output, Proof, Status, Unit, SECTOR};
+use etcs_unit::{build_info, build_proof, command, format, wipe, Action, Brake, Cold, Error, Level, Medium, Mode, Output, Proof, Status, Unit, SECTOR};
 
 const SLOTS: u32 = 4;
 
@@ -80,6 +80,23 @@ fn wrong_calls() {
         unit.action(Action::Start).unwrap();
     }
     assert_eq!(status(unit.action(Action::Start)), Some(Status::PendingFull));
+}
+
+#[test]
+fn a_format_leaves_a_journal() {
+    let mut medium = Failing::formatted(u32::MAX);
+    let (mut unit, _) = Unit::open(Failing { bytes: medium.bytes.clone(), left: u32::MAX }, Cold::Unknown).unwrap();
+    unit.clock(5).unwrap();
+    assert_eq!(unit.flush().unwrap()[0].event, 1);
+    medium.bytes = unit.medium().bytes.clone();
+    let before = medium.bytes.clone();
+    assert!(matches!(format(&mut medium, SLOTS), Err(Error::HasJournal)));
+    assert!(medium.bytes == before);
+    wipe(&mut medium, SLOTS).unwrap();
+    let (mut unit, _) = Unit::open(medium, Cold::Unknown).unwrap();
+    unit.clock(5).unwrap();
+    assert_eq!(unit.flush().unwrap()[0].event, 1);
+    assert!(matches!(format(&mut Failing { bytes: before, left: 0 }, SLOTS), Err(Error::Medium(Failed))));
 }
 
 #[test]

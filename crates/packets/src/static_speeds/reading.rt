@@ -58,7 +58,7 @@ fn read_steps(
 /// Reads packet 27 after its number, into the place of another packet; answers its L_PACKET, in bits. The error is the
 /// first fault in the order of the bits.
 #[tactic(auto, unfolding(crate::specs::Layouts::static_speeds_description))]
-pub fn read_static_speeds<'a>(
+pub(crate) fn read_static_speeds<'a>(
     reader: &mut BitReader<'a>,
     out: &mut Packet<'a>,
 ) -> Result<PacketLength, PacketFault>

@@ -24,5 +24,5 @@ pub fn take<G: ProfileStore<Permille>>(store: &mut G, mark: Cm, packet: &Packet<
     };
     let reported = gradients(packet, used.place);
     store.replace_reserved(reported.start, reported.steps.as_slice());
-    store.drop_before(mark);
+    store.drop_behind(mark);
 }

@@ -30,5 +30,5 @@ pub fn take<S: ProfileStore<CategorySpeeds>>(
     };
     let reported = static_speeds(packet, used.place);
     store.replace_reserved(reported.start, reported.steps.as_slice());
-    store.drop_before(mark);
+    store.drop_behind(mark);
 }

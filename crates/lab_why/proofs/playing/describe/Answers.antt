@@ -14,7 +14,7 @@ returns g c is =
     let life = c.args.life.now in
     let stopped = c.args.lived.now.stopped in
     let takes = g.S.LineSink.Takes in
-    let older = carried_older (initial life.cold) life.steps stopped in
+    let older = carried_older (initial life.cold) life.steps.items stopped in
     let reported = c.in_ok-report_released.ensures (released_in life stopped) older.0 older.1
     (is ∙ ap (λ (l : List Release). pairs_of (initial life.cold) ++ l) (sym c.as_slice.ensures.value)) in
     let first = c.first_line.ensures ∙ ap (λ (l : List ℕ). first_line life.cold (length l)) c.as_slice-ends.ensures.value in

@@ -21,13 +21,15 @@ ends_so steps (Err error) ends = ends
 pub returns-clause-released : goal.returns-clause-released
 returns-clause-released c =
     let life = c.args.life.now in
+    let steps : List Step = c.as_slice.result.now in
     let ended : Result (Unit {0}) LiveError = c.in_ok-played.played.ended in
     let out : List Release = c.in_ok-played.played.released.items in
-    subst (λ (s : Option LiveError). pairs_of (durable_by (initial life.cold) (carried_out life.steps s)) ≡ pairs_of (initial life.cold) ++ out)
-    (sym c.err.ensures.value)
-    (ap (λ (l : List Step). pairs_of (durable_by (initial life.cold) l)) (same_steps life.steps ended) ∙ c.in_ok-played.ensures.outputs)
+    let R : List Step → Option LiveError → Type 0 = λ l s. pairs_of (durable_by (initial life.cold) (carried_out l s)) ≡ pairs_of (initial life.cold) ++ out in
+    subst (λ (l : List Step). R l c.err.result) c.as_slice.ensures.value (subst (R steps) (sym c.err.ensures.value)
+    (ap (λ (l : List Step). pairs_of (durable_by (initial life.cold) l)) (same_steps steps ended) ∙ c.in_ok-played.ensures.outputs))
 
 pub returns-clause-ends : goal.returns-clause-ends
 returns-clause-ends c =
-    subst (λ (s : Option LiveError). PlayEnds c.args.life.now.steps s) (sym c.err.ensures.value)
-    (ends_so c.args.life.now.steps c.in_ok-played.played.ended c.in_ok-played.ensures.ends)
+    let steps : List Step = c.as_slice.result.now in
+    subst (λ (l : List Step). PlayEnds l c.err.result) c.as_slice.ensures.value
+    (subst (PlayEnds steps) (sym c.err.ensures.value) (ends_so steps c.in_ok-played.played.ended c.in_ok-played.ensures.ends))

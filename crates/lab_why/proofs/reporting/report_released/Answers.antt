@@ -1,12 +1,12 @@
-use Rattle.std.proofs.Common.{rules, ◌≡◌, ℕ, suc, ◌+◌, ◌<◌, ◌≤◌, List, [], ◌∷◌, ◌++◌, length, take, drop, get_or, refl, sym, ◌∙◌, ap, subst, arith}
+use Rattle.std.proofs.Common.{rules, ◌≡◌, ℕ, suc, ◌+◌, ◌<◌, ◌≤◌, List, [], ◌∷◌, ◌++◌, length, take, drop, refl, sym, ◌∙◌, ap, subst, arith}
 use Rattle.events.specs.declared.input.Event.{Event}
 use Rattle.events.specs.declared.input.Event.TheVariants as an_event
 use Rattle.events.specs.declared.kept.Kept.{Kept}
 use Rattle.events.specs.declared.step.Step.{Step}
-use Rattle.events.specs.declared.step.Step.TheVariants.{Accept}
+use Rattle.events.specs.declared.step.Step.TheVariants.{Accept, Flush}
 use Rattle.kernel.specs.Lives.{left_by, story_of}
 use Rattle.unit_start.specs.Events.{pair_of}
-use Rattle.whole_lives.specs.Runs.{accept_one, accepted_by}
+use Rattle.whole_lives.specs.Runs.{accepted_by}
 use Rattle.reasons.specs.Reported.{Reasons}
 use Rattle.line_sinks.proofs.Taking.{takes-both}
 use Rattle.lab_why.specs.Played.{step_at}
@@ -29,14 +29,10 @@ loop-place-init g c = record {
 pub loop-place-preserved-in_default : goal.loop-place-preserved-in_default
 loop-place-preserved-in_default g c =
     let life = c.args.life.now in
-    let steps : List Step = life.steps in
     let place : ℕ = c.loop-place.place in
-    let x : Step = c.get.result in
     let before = c.loop-place.invariant in
-    let at : x ≡ get_or steps place x = c.get.ensures in
-    let below : place < length steps = search rules in
-    let on : accepted_by (initial life.cold) (take (place + 1) steps) ≡ up_to_here life.cold steps place =
-    one_on life.cold steps place x x below at ∙ ap (accept_one (up_to_here life.cold steps place)) c.in_default.is in
+    let on : accepted_by (initial life.cold) (take (place + 1) life.steps.items) ≡ up_to_here life.cold life.steps.items place =
+    one_on life.cold life.steps.items place c.as_slice-steps.result.now c.as_slice-steps.ensures.value Flush _ (search rules) (sym c.in_default.is ∙ c.index-steps-place.is) in
     record {
       reasons = subst (λ (l : List Event). Reasons (story_of l) c.loop-place.reasoning) (sym on) before.reasons;
       count = ap length on ∙ before.count;
@@ -53,24 +49,23 @@ returns-then-reported-released g c = λ durable more accepted pairs.
     let before = c.loop-place.invariant in
     let so = before.lines durable more accepted pairs in
     let reported : c.loop-place.reported ≡ length c.args.released.now = omega arith in
-    let all = all_reported life.cold life.steps c.loop-place.place durable more c.args.released.now accepted pairs (before.count ∙ ap suc reported) in
+    let all = all_reported life.cold life.steps.items c.loop-place.place durable more c.args.released.now accepted pairs (before.count ∙ ap suc reported) in
     (so.0, subst (λ (l : List Event). AreLines (input_steps life) l so.0) all so.1, so.2)
 
 pub loop-place-preserved : goal.loop-place-preserved
 loop-place-preserved g c =
     let life = c.args.life.now in
-    let steps : List Step = life.steps in
+    let steps : List Step = life.steps.items in
+    let slice : List Step = c.as_slice-steps.result.now in
     let ends : List ℕ = life.ends.items in
     let place : ℕ = c.loop-place.place in
-    let x : Step = c.get.result in
-    let input = c.in-Accept.input in
+    let input = c.copy.result in
     let before = c.loop-place.invariant in
-    let below : place < length steps = search rules in
-    let at : x ≡ get_or steps place x = c.get.ensures in
-    let at_input : Accept input ≡ get_or steps place x = sym c.in-Accept.is ∙ at in
+    let same : slice ≡ steps = c.as_slice-steps.ensures.value in
+    let below : place < length slice = search rules in
+    let at = ap Accept c.copy.ensures ∙ sym c.in-Accept.is ∙ c.index-steps-place.is in
     let up : List Event = up_to_here life.cold steps place in
-    let on : accepted_by (initial life.cold) (take (place + 1) steps) ≡ an_event.Input input ∷ up =
-    one_on life.cold steps place x x below at ∙ ap (accept_one up) c.in-Accept.is in
+    let on : accepted_by (initial life.cold) (take (place + 1) steps) ≡ an_event.Input input ∷ up = one_on life.cold steps place slice same (Accept input) _ below at in
     let long = ap length on in
     let some : c.loop-place.reported < length c.args.released.now = omega (arith, before.within, c.if-reported-released.false) in
     let step : c.step_from-step.result ≡ step_at ends place =
@@ -92,7 +87,7 @@ loop-place-preserved g c =
             so.0 ++ line.0 ∷ [],
             subst (λ (l : List Event). AreLines (input_steps life) l (so.0 ++ line.0 ∷ [])) (sym on)
                 (one_line (input_steps life) up input c.index-released-reported.result c.step_from-step.result so.0 line.0
-                (input_step life.cold steps place ends input x below at_input ∙ sym step) one so.1 line.1),
+                (input_step life.cold steps place slice same ends input _ below at ∙ sym step) one so.1 line.1),
             takes-both g.S.LineSink.Takes so.0 (line.0 ∷ []) c.args.sink.now c.loop-place.sink c.report_one.new.sink so.2 (c.report_one.new.sink, line.2, refl),
           );
     }
@@ -100,9 +95,9 @@ loop-place-preserved g c =
 pub returns : goal.returns
 returns g c = λ durable more accepted pairs.
     let life = c.args.life.now in
-    let steps : List Step = life.steps in
+    let steps : List Step = life.steps.items in
     let before = c.loop-place.invariant in
     let so = before.lines durable more accepted pairs in
-    let over : length steps ≤ c.loop-place.place = search rules in
+    let over : length steps ≤ c.loop-place.place = (let there : length c.as_slice-steps.result.now ≤ c.loop-place.place = search rules in subst (λ (l : List Step). length l ≤ c.loop-place.place) c.as_slice-steps.ensures.value there) in
     let all = none_left life.cold steps c.loop-place.place durable more c.args.released.now accepted pairs c.loop-place.reported over before.count before.within in
     (so.0, subst (λ (l : List Event). AreLines (input_steps life) l so.0) all so.1, so.2)

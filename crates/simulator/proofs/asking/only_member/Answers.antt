@@ -1,6 +1,6 @@
 use Rattle.std.proofs.Common.{◌≡◌, ◌==◌, List, [], ◌∷◌, length, slice_get, false, Some, String, string_bytes, sym, ap, ◌∙◌, arith}
 use Rattle.std.specs.declared.alloc.Global.{Global}
-use Rattle.json.proofs.Found.{not_found, Some_inj}
+use Rattle.std.proofs.lemmas.Option.{none-some, same_Some}
 use Rattle.serde_json.specs.Data.{Data, null, boolean, number, string, array, object, Members, no_members, member}
 use Rattle.serde_json.specs.Find.{as_object}
 use Rattle.serde_json.specs.View.{view, members_view}
@@ -11,18 +11,18 @@ use Rattle.simulator.proofs.asking.only_member.Goals as goal
 
 -- the object that has these members
 as_object_of : (d : Data) (ms : Members) → as_object d ≡ Some ms → d ≡ object ms
-as_object_of null ms e = not_found ms e
-as_object_of (boolean b) ms e = not_found ms e
-as_object_of (number n) ms e = not_found ms e
-as_object_of (string s) ms e = not_found ms e
-as_object_of (array ds) ms e = not_found ms e
-as_object_of (object found) ms e = ap object (Some_inj _ _ e)
+as_object_of null ms e = absurd (none-some ms e)
+as_object_of (boolean b) ms e = absurd (none-some ms e)
+as_object_of (number n) ms e = absurd (none-some ms e)
+as_object_of (string s) ms e = absurd (none-some ms e)
+as_object_of (array ds) ms e = absurd (none-some ms e)
+as_object_of (object found) ms e = ap object (same_Some _ _ e)
 
 -- the entries of a map of one
 only_entry_of : (es : List (String Global × Value)) (k : String Global) (v : Value) → length es ≡ 1 → slice_get es 0 ≡ Some (k, v)
     → members_view es ≡ member (string_bytes k) (view v) no_members
-only_entry_of [] k v one first = not_found _ first
-only_entry_of (e ∷ []) k v one first = ap (λ p. members_view (p ∷ [])) (Some_inj _ _ first)
+only_entry_of [] k v one first = absurd (none-some _ first)
+only_entry_of (e ∷ []) k v one first = ap (λ p. members_view (p ∷ [])) (same_Some _ _ first)
 only_entry_of (e ∷ f ∷ es) k v one first = absurd (omega (arith, one))
 
 pub returns-then-len-ne1 : goal.returns-then-len-ne1

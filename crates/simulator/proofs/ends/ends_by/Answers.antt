@@ -22,7 +22,8 @@ loop-item-preserved c =
     let more : ends_by ahead (map view (drop i items)) run so_far
     ≡ (step_of (view item) >>= λ step. ends_by ahead (map view rest) (taken ahead step run) (so_far ++ length (taken ahead step run).steps ∷ [])) =
     at_drop_more (λ (vs : List Value). ends_by ahead (map view vs) run so_far) items i item c.loop-item-test.true ∙ ap (λ (v : Value). ends_by ahead (view v ∷ map view rest) run so_far) (sym c.item-item.is) in
-    let noted : c.push.new.self.items ≡ so_far ++ length c.take.new.self.steps ∷ [] = c.in_ok-push.ensures.items ∙ ap (λ (n : ℕ). so_far ++ n ∷ []) c.len.ensures in
+    let steps = c.take.new.self.steps in
+    let noted : c.push.new.self.items ≡ so_far ++ length steps.items ∷ [] = c.in_ok-push.ensures.items ∙ ap (λ (n : ℕ). so_far ++ n ∷ []) (c.len.ensures ∙ steps.ok.0) in
     record {
       so_far =
           ap (λ (ends : List ℕ). ends_by ahead (map view rest) (run_of c.take.new.self) ends) noted

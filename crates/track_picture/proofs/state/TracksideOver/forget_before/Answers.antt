@@ -22,13 +22,13 @@ returns-then-moves-clause-stands g c life event s =
     let speeds_before = sym (speeds_as are _ ∙ g.met.T.Speeds.ProfileStore.profile_is c.self.inside.speeds) ∙ before.speeds_are in
     record {
       parts_are = before.parts_are;
-      restrictions_are = c.drop_before.ensures.track (description_of all).restrictions before.restrictions_are;
+      restrictions_are = c.drop_behind.ensures.track (description_of all).restrictions before.restrictions_are;
       gradients_are = gradients_as are _ ∙ g.met.T.Gradients.ProfileStore.profile_is _
-          ∙ marked_at (profile_with g.T.Gradients.Profile.value c.self.inside.gradients) (profile_with g.T.Gradients.Profile.value c.drop_before-then-moves.new.self)
-          (record { mark = (description_of all).mark; facts = (description_of all).gradients }) gradients_before c.args.mark c.drop_before-then-moves.ensures.value;
+          ∙ marked_at (profile_with g.T.Gradients.Profile.value c.self.inside.gradients) (profile_with g.T.Gradients.Profile.value c.drop_behind-then-moves.new.self)
+          (record { mark = (description_of all).mark; facts = (description_of all).gradients }) gradients_before c.args.mark c.drop_behind-then-moves.ensures.value;
       speeds_are = speeds_as are _ ∙ g.met.T.Speeds.ProfileStore.profile_is _
-          ∙ marked_at (profile_with g.T.Speeds.Profile.value c.self.inside.speeds) (profile_with g.T.Speeds.Profile.value c.drop_before-then-moves-2.new.self)
-          (record { mark = (description_of all).mark; facts = (description_of all).speeds }) speeds_before c.args.mark c.drop_before-then-moves-2.ensures.value;
+          ∙ marked_at (profile_with g.T.Speeds.Profile.value c.self.inside.speeds) (profile_with g.T.Speeds.Profile.value c.drop_behind-then-moves-2.new.self)
+          (record { mark = (description_of all).mark; facts = (description_of all).speeds }) speeds_before c.args.mark c.drop_behind-then-moves-2.ensures.value;
     }
 
 -- the mark stays
@@ -42,7 +42,7 @@ returns-else-moves-clause-stands g c life event s =
     let stays : int_max c.args.mark (description_of all).mark ≡ (description_of all).mark = kept_mark c.args.mark _ (subst (λ (z : ℤ). c.args.mark ≤ℤ z) own following) in
     record {
       parts_are = before.parts_are;
-      restrictions_are = c.drop_before.ensures.track (description_of all).restrictions before.restrictions_are;
+      restrictions_are = c.drop_behind.ensures.track (description_of all).restrictions before.restrictions_are;
       gradients_are = before.gradients_are ∙ ap (λ (mark : ℤ). profile_of (record { mark = mark; facts = (description_of all).gradients })) (sym stays);
       speeds_are = before.speeds_are ∙ ap (λ (mark : ℤ). profile_of (record { mark = mark; facts = (description_of all).speeds })) (sym stays);
     }

@@ -57,7 +57,7 @@ class Hazards:
         self.reader, self.faults, self.cells = reader, [], {}
         self.known = {
             "laws": set(reader.sources.laws), "premises": set(reader.premises),
-            "sections": {it.section for it in reader.requirements if it.part == "sections"}, "cases": {one.name for one in reader.cases},
+            "sections": set(reader.sections), "cases": {one.name for one in reader.sources.cases},
             "safety": {it.identity.removeprefix("S-") for it in reader.requirements if it.part == "safety"},
         }
         for name, at in document(SOURCE).members(tuple(HAZARDS)).items():
@@ -93,7 +93,7 @@ def shown(kind, one, reader):
         _, place = reader.sources.laws.get(one, ("", None))
         return f"[{one}](../../{place.path}#L{place.line})" if place else one
     if kind == "cases":
-        place = next((case.place for case in reader.cases if case.name == one), None)
+        place = next((case.place for case in reader.sources.cases if case.name == one), None)
         return f"[{one}](../../{place.path}#L{place.line})" if place else one
     return f"SAFETY {one}" if kind == "safety" else one
 

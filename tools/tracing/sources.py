@@ -1,18 +1,27 @@
-"""What stands in crates/: definitions, clauses of public calls, laws and must-fail edits, each with its file and line.
-
-How definitions and clauses are read is that of tools/definitions.
+"""What is in crates/: definitions, clauses of public calls, laws and must-fail edits, each with its file and line. And what is run:
+rows and test cases. tools/definitions parses the crates.
 """
 import importlib.machinery
 import importlib.util
 import re
-from collections import defaultdict
 from dataclasses import dataclass, field
 from pathlib import Path
 
+from gaknifur.testing import cases, coverage
+from gaknifur.yaml_files import documents
+
 TOP = Path(__file__).resolve().parents[2]
-CLAUSE = re.compile(r"\s*(requires|ensures)\s*(\w*)\s*\{")
+CLAUSE = re.compile(r"\s*ensures\s*(\w*)\s*\{")
 LAW = re.compile(r"^/// A law: (.*(?:\n/// .*)*)\n(?:#.*\n)*pub fn (\w+)", re.M)
-FUNCTION = re.compile(r"\s*(?:pub )?(?:const )?fn (\w+)")
+# The files of rows, or the scripts whose sentences are above the rows that they make.
+ROWS = {
+    "": ["tests/rows/test_kernel.row"],
+    "programs": ["tests/programs"],
+    **{name: [f"tests/rows/test_{name}.row"] for name in ("parts", "decode", "modes", "journal", "disk", "track", "guard")},
+    "onboard": ["tests/rows/test_onboard.row", "tests/plain/onboard_lives.py"],
+    "blocks": ["tests/plain/blocks.py"],
+}
+TITLE = re.compile(r"^(?:row |case |# | *rows\.comment\(f?\"| *made\.say\(\"# )?(.*?)(?:\"\))?$")
 
 
 def tool(name):
@@ -34,125 +43,97 @@ class Place:
         return f"{self.path}:{self.line}"
 
 
-@dataclass
+@dataclass(frozen=True)
 class Clause:
-    """A clause of a public call: its crate, the type or trait that has the call, and the definitions that it names."""
+    """A clause of a public call: the call as requirements name it, the clause's name, and its place."""
 
-    crate: str
-    owner: str
-    call: str
+    item: str
     name: str
     place: Place
-    names: frozenset
-
-    @property
-    def item(self):
-        """The call, as requirements name it."""
-        return "::".join([self.crate, *([self.owner] if self.owner != self.call else []), self.call])
 
     def __str__(self):
         return f"{self.item} ({self.name or 'one'})"
 
 
 @dataclass
-class Sources:
-    """All sources. A definition is (CRATE.FILE, NAME)."""
+class TestCase:
+    """A test case: its sections, the items of SAFETY that it shows, and its place."""
 
-    crates: list
+    name: str
+    sections: set
+    shows: set
+    place: Place
+
+
+@dataclass
+class Sources:
+    """All sources. `pages` has the files of specs/ by CRATE.FILE."""
+
     pages: dict
-    names: dict = field(default_factory=dict)
-    named_by: dict = field(default_factory=lambda: defaultdict(set))
-    clauses: list = field(default_factory=list)
+    clauses: dict = field(default_factory=dict)
     laws: dict = field(default_factory=dict)
     edits: dict = field(default_factory=dict)
+    rows: dict = field(default_factory=dict)
+    cases: list = field(default_factory=list)
 
-    def place(self, definition):
-        """Where a definition is declared."""
-        page = self.pages[definition[0]]
-        return Place(page.path, page.at[definition[1]])
-
-    def below(self, definitions):
-        """Definitions, and all that they use."""
-        seen, left = set(), list(definitions)
-        while left:
-            one = left.pop()
-            if one not in seen:
-                seen.add(one)
-                left += self.names[one]
-        return seen
-
-    def nearest(self, definition):
-        """The clauses of public calls that name a definition; where none does, those that name what uses it."""
-        seen, level = {definition}, {definition}
-        while level:
-            found = [one for one in self.clauses if level & one.names]
-            if found:
-                return found
-            level = {above for one in level for above in self.named_by[one]} - seen
-            seen |= level
-        return []
+    def row(self, name):
+        """The place of a row that a requirement names, or None. A row of the kernel is named in full."""
+        prefix, _, title = name.partition(": ")
+        if prefix in self.rows and title:
+            return next((place for text, place in self.rows[prefix] if text.startswith(title)), None)
+        return next((place for text, place in self.rows[""] if text == name), None)
 
 
-def split(lines):
-    """The clauses of an item: the name of each, its lines, and the number of lines before it."""
-    found = []
-    for at, line in enumerate(lines):
-        head = CLAUSE.match(line)
-        if head:
-            found.append((head[1], head[2], [], at))
-        if found:
-            found[-1][2].append(line)
-    return [(name, part, at) for kind, name, part, at in found if kind == "ensures"]
+def clauses(reader):
+    """The clauses of each public call, by the call's name."""
+    found = {}
+    for crate, source, owner, call, lines, number in reader.public_items():
+        item, whole = "::".join([crate, *([owner] if owner != call else []), call]), source.text.split("\n")
+        for line in lines:
+            head = CLAUSE.match(line)
+            if head:
+                at = next((at for at in range(number, len(whole) + 1) if whole[at - 1] == line), number)
+                found.setdefault(item, []).append(Clause(item, head[1], Place(source.path, at)))
+    return found
 
 
-def add_clauses(sources, reader):
-    """Adds the clauses of all public calls."""
-    for crate, source, owner, name, lines, number in reader.public_items():
-        whole = source.text.split("\n")
-        for clause, part, _ in split(lines):
-            at = next((n for n in range(number, len(whole) + 1) if whole[n - 1] == part[0]), number)
-            names = frozenset(one for one in reader.named_in(sources.pages, source, name, part) if one in sources.names)
-            sources.clauses.append(Clause(crate, owner, name, clause, Place(source.path, at), names))
-
-
-def add_laws(sources):
-    """Adds the laws: public functions whose first line of documentation says so."""
-    for crate in sources.crates:
+def laws(crates):
+    """The laws, public functions whose documentation begins so: of each its sentence and its place."""
+    found = {}
+    for crate in crates:
         for path in sorted(Path(f"crates/{crate}/src").rglob("*.rt")):
             text = path.read_text(encoding="utf-8")
-            for found in LAW.finditer(text):
-                line = text.count("\n", 0, found.start(2)) + 1
-                said = " ".join(found[1].replace("\n///", " ").split())
-                sources.laws[f"{crate}.{found[2]}"] = (said[0].upper() + said[1:], Place(str(path), line))
+            for law in LAW.finditer(text):
+                said = " ".join(law[1].replace("\n///", " ").split())
+                found[f"{crate}.{law[2]}"] = (said[0].upper() + said[1:], Place(str(path), text.count("\n", 0, law.start(2)) + 1))
+    return found
 
 
-def add_edits(sources):
-    """Adds the must-fail edits, with the function that each alters."""
-    for path in sorted(Path("crates").glob("*/must-fail/*.edit")):
-        edit = dict(re.findall(r"^(\w+): *(.*)$", path.read_text(encoding="utf-8"), re.M))
-        source = path.parents[1] / edit["file"]
-        function, at = "", 0
-        for number, line in enumerate(source.read_text(encoding="utf-8").splitlines(), 1):
-            head = FUNCTION.match(line)
-            if head:
-                function = head[1]
-            if edit["old"].strip() in line:
-                at = number
-                break
-        sources.edits[path.stem] = (path.parents[1].name, function, Place(str(path), 1), Place(str(source), at))
+def rows():
+    """The lines of each file of rows, without the marks of titles, and their places."""
+    found = {}
+    for prefix, paths in ROWS.items():
+        files = [file for path in map(Path, paths) for file in (sorted(path.glob("*.row")) if path.is_dir() else [path])]
+        found[prefix] = [(TITLE.match(line)[1], Place(str(file), number)) for file in files
+                         for number, line in enumerate(file.read_text(encoding="utf-8").splitlines(), 1)
+                         if prefix or line.startswith("row ")]
+    return found
+
+
+def test_case(at):
+    """The head of a case. Its steps aren't read here: that needs the program."""
+    head = at.members(cases.CASE, cases.MORE)
+    sections = set(cases.sections_of(head["sections"]))
+    for one in head["expected"].elements() if "expected" in head else []:
+        more = one.entries()
+        sections |= set(cases.sections_of(more["sections"])) if "sections" in more else set()
+    shows = {one.text() for one in head["shows"].elements()} if "shows" in head else set()
+    return TestCase(head["test_case"].text(), sections, shows, Place(str(at.path), at.line))
 
 
 def read():
     """Reads all sources, from the current folder."""
     reader = tool("definitions")
-    sources = Sources(reader.crates(), reader.read_pages())
-    for page, it in sources.pages.items():
-        for name in it.definitions:
-            sources.names[page, name] = reader.named(sources.pages, page, name)
-    for one, names in sources.names.items():
-        for name in names:
-            sources.named_by[name].add(one)
-    add_clauses(sources, reader)
-    add_laws(sources)
-    add_edits(sources)
-    return sources
+    edits = {path.stem: str(path) for path in sorted(Path("crates").glob("*/must-fail/*.edit"))}
+    found = [test_case(at) for folder in ("suites", "examples/closed_loop") for path in coverage.files(Path(folder)) for at in documents(path)]
+    return Sources(reader.read_pages(), clauses(reader), laws(reader.crates()), edits, rows(), found)

@@ -8,7 +8,7 @@
  * The image comes in as bytes: a file that was read or mapped, or a copy of the unit's medium. Nothing is held or closed,
  * so there is no handle; any thread may call, and many at once on the same bytes. The bytes are never written to. No call
  * takes memory but etcs_image_replay and etcs_image_why, which run a life through the kernel again: they take what a unit
- * takes for its track (docs/project/performance.md has the bound), and give it back before they answer.
+ * takes for its track (docs/explain/integration.md has the bound), and give it back before they answer.
  *
  *     etcs_journal journal;
  *     etcs_record record;

@@ -289,11 +289,11 @@ gcc -std=gnu11 -O2 -fPIC -shared "$top/tests/hostile/refuse.c" -o "$made/refuse.
 "$python" "$top/tests/unit/lives.py" "$made/life.gcc" "${2:-400}" || status=1
 "$python" "$top/tests/unit/lives.py" "$made/life.checked" "$((${2:-400} / 20))" 7 || status=1
 
-# ---- instructions: rows along with kept ones, and the worst case along with its bounds
+# ---- instructions: rows along with kept ones, and readings before long tracks along with their bounds
 
-gcc -std=gnu11 -O2 -Wl,-z,now,--wrap=malloc,--wrap=realloc,--wrap=free -I "$include" -I "$top/tests/unit" "$top/bench/worst.c" "$archive" \
-    -o "$made/worst" || fails "bench/worst.c doesn't compile"
-"$python" "$top/tests/unit/counts.py" "$made/worst" || status=1
+gcc -std=gnu11 -O2 -Wl,-z,now,--wrap=malloc,--wrap=realloc,--wrap=free -I "$include" "$top/tests/unit/counts.c" "$archive" -o "$made/counts" ||
+    fails "tests/unit/counts.c doesn't compile"
+"$python" "$top/tests/unit/counts.py" "$made/counts" || status=1
 
 # ---- the stack of each call, compared with the numbers of the headers
 
@@ -304,7 +304,7 @@ for header in etcs_file etcs_executive etcs_nor; do
 done
 echo 'int main(void) { return 0; }' >>"$made/outer.c"
 gcc -std=c99 -O2 -I "$made/outer" -I "$include" "$made/outer.c" "$archive" -o "$made/outer.gcc" || fails "the calls of the headers as functions don't compile"
-"$python" "$top/tests/unit/stacks.py" "$made/worst" "$made/outer.gcc" || status=1
+"$python" "$top/tests/unit/stacks.py" "$made/counts" "$made/outer.gcc" || status=1
 
 # ---- memory that is refused
 

@@ -1,5 +1,4 @@
-/* Lines of a script, and answers, without a C library (platform.h has where they come from and go): what the driver and bench/board.c have in
- * common. */
+/* Lines of a script, and answers, without a C library (platform.h has where they come from and go). */
 #ifndef LINES_H
 #define LINES_H
 

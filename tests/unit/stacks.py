@@ -2,8 +2,8 @@
 """The stack of each call from C, by the frames in the object code, compared with the number that the headers give: the macro ETCS_STACK_BYTES_.. that the
 comment of a call names, or that of its header.
 
-    tests/unit/stacks.py WORST OUTER    WORST is bench/worst.c with the library, OUTER a program that has the calls of the headers which define all of
-                                        theirs in themselves as functions
+    tests/unit/stacks.py COUNTS OUTER    COUNTS is counts.c with the library, OUTER a program that has the calls of the headers which define all of
+                                         theirs in themselves as functions
 
 What the C library takes isn't counted, nor what functions of the equipment take.
 """
@@ -13,7 +13,7 @@ from pathlib import Path
 
 TOP = Path(__file__).resolve().parents[2]
 sys.dont_write_bytecode = True
-sys.path[:0] = [str(TOP / "bench"), str(TOP / "tests"), str(TOP / "tools")]
+sys.path[:0] = [str(TOP / "tests")]
 
 import stack_bound  # noqa: E402
 from compared import Compared  # noqa: E402
@@ -25,12 +25,12 @@ NUMBER = re.compile(r"^#define (ETCS_STACK_BYTES\w*) (\d+)$", re.MULTILINE)
 LEAST = 110
 
 
-def main(worst, outer):
+def main(counts, outer):
     rows, numbers, used = Compared(), {}, set()
     headers = {name: (TOP / "include" / name).read_text() for name in (*OF_LIBRARY, *IN_HEADERS)}
     for text in headers.values():
         numbers.update((name, int(number)) for name, number in NUMBER.findall(text))
-    for program, places in ((worst, OF_LIBRARY), (outer, IN_HEADERS)):
+    for program, places in ((counts, OF_LIBRARY), (outer, IN_HEADERS)):
         functions = stack_bound.functions_of(program)
         for header, otherwise in places.items():
             for comment, call in CALL.findall(headers[header]):

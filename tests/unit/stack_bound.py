@@ -2,8 +2,8 @@
 """Print the bound of the stack of calls, from the frames in the object code: the deepest path through the calls from each
 function.
 
-    bench/stack_bound.py PROGRAM PATTERN    for each function whose name matches: its name, the bytes, and the functions on the deepest path
-    bench/stack_bound.py --help             print this
+    tests/unit/stack_bound.py PROGRAM PATTERN    for each function whose name matches: its name, the bytes, and the functions on the deepest path
+    tests/unit/stack_bound.py --help             print this
 
 The program is for x86-64 or aarch64. The bytes are those of the return address, of what is pushed, and of what is subtracted
 from the stack pointer, in each function on the path. The bound holds where no function calls itself again, and where each call
@@ -15,7 +15,7 @@ import subprocess
 import sys
 from pathlib import Path
 
-sys.path.insert(0, str(Path(__file__).resolve().parents[1] / "tools"))
+sys.path.insert(0, str(Path(__file__).resolve().parents[2] / "tools"))
 import usage  # noqa: E402
 
 HEAD = re.compile(r"^[0-9a-f]+ <(.*)>:$")

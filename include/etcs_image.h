@@ -140,7 +140,7 @@ typedef struct {
 
 /** What gate and head of a slot hold. */
 typedef struct {
-    uint64_t number;    /**< the number of the block that an archive keeps of the slot, 1 to 2^40; 0 where there is none to keep */
+    uint64_t number;    /**< the number of the block that the slot holds as a unit wrote it, 1 to 2^40; 0 where it holds none */
     uint32_t is_closed; /**< 1 where the gate is closed, else 0 */
     uint32_t reserved;  /**< zero */
 } etcs_slot_start;
@@ -310,11 +310,11 @@ static inline uint32_t etcs_image_slot(const uint8_t *image, size_t size, uint64
     return ((image != NULL) && (found != NULL)) ? etcs_image_slot_(image, size, ETCS_UNIT_ABI, newest, slot, found) : (uint32_t)ETCS_UNIT_NULL_POINTER;
 }
 
-/** Decides from gate and head of a slot which block an archive keeps of it. `start` has the first two sectors of the slot,
- * or all six; `slots` is how many slots the ring has, `slot` which of them it is. A block is to be kept where its gate is
+/** Decides from gate and head of a slot which block it holds. `start` has the first two sectors of the slot,
+ * or all six; `slots` is how many slots the ring has, `slot` which of them it is. It holds a block where its gate is
  * written as a unit writes it for one number from 1 to 2^40, and its head begins with the mark of a known format and with
  * the same number, which belongs to the slot. The head's other fields and the records aren't read: etcs_image_slot does.
- * An entry of an archive is in no ring: pass 1 slot and slot 0, to which each number belongs. Returns OK, OTHER_ABI,
+ * For a copy of a slot outside a ring pass 1 slot and slot 0, to which each number belongs. Returns OK, OTHER_ABI,
  * OUT_OF_RANGE (fewer than 1,024 bytes, or more than 1,048,576 slots), or NO_SUCH_SLOT where the ring has no such slot. */
 static inline uint32_t etcs_image_slot_start(const uint8_t *start, size_t size, uint64_t slots, uint64_t slot, etcs_slot_start *found) {
     return ((start != NULL) && (found != NULL)) ? etcs_image_slot_start_(start, size, ETCS_UNIT_ABI, slots, slot, found) : (uint32_t)ETCS_UNIT_NULL_POINTER;

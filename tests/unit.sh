@@ -1,6 +1,6 @@
 #!/bin/bash
 # Test the unit from C, C++, Python, Rust and Ada, all built from the folder that tools/library makes: each header by itself, the names that
-# the library exports, sizes and offsets, wrong calls, files, archives of blocks and marks next to the journal, starts of slots, two units at once, the
+# the library exports, sizes and offsets, wrong calls, files, starts of slots, two units at once, the
 # executive, also over what FreeRTOS and Zephyr declare, inputs of the odometer, media that lose power, the examples, images compared with `etcs journal`, random lives compared with `etcs run`, instructions
 # compared with kept counts and bounds, the stack of each call compared with the headers, a disk that is full, memory that is refused, and the commands of the pages for makers. Needs gcc, g++, valgrind, cargo, gnat and Debian's Python; clang
 # is used where it is installed.
@@ -127,13 +127,13 @@ build() {
 built=0
 link=("$archive")
 "$python" "$top/tests/unit/layout.py" --program >"$made/places.c" || fails "layout.py prints no program"
-for name in layout misuse sectors media files kept two life reading starts listing again explained driver_info preview telegrams guard executive odometer rtos; do
+for name in layout misuse sectors media files two life reading starts listing again explained driver_info preview telegrams guard executive odometer rtos; do
     source=$top/tests/unit/$name.c
     [ "$name" != layout ] || source=$made/places.c
     for compiler in "${compilers[@]}"; do build "$name.$compiler" "$source" "$compiler" -x c -std=c99 -O2; done
     build "$name.cpp" "$source" g++ -x c++ -std=c++17 -O2 -Wno-missing-field-initializers
 done
-for name in misuse sectors media files kept two life reading starts listing again explained driver_info preview telegrams guard executive odometer rtos; do
+for name in misuse sectors media files two life reading starts listing again explained driver_info preview telegrams guard executive odometer rtos; do
     build "$name.checked" "$top/tests/unit/$name.c" gcc -x c -std=c99 -O1 "${sanitizers[@]}"
 done
 for name in brake flash why; do
@@ -165,7 +165,7 @@ for one in "$top"/examples/embedding/ada/{brake,read_image}.adb "$top"/tests/uni
         fails "$(basename "$one") doesn't compile"
 done
 for name in brake guard read_image; do cp "$made/rust/debug/$name" "$made/${name/guard/stops}.rs" && built=$((built + 1)); done
-counted "programs built" $built 81
+counted "programs built" $built 78
 
 # ---- what they answer
 
@@ -178,7 +178,7 @@ runs_well() {
 
 "$python" "$top/tests/unit/layout.py" "$made"/layout.* || fails "sizes and places differ"
 for program in "$made"/misuse.* "$made"/sectors.* "$made"/two.* "$made"/reading.* "$made"/starts.* "$made"/telegrams.* "$made"/guard.* "$made"/executive.* "$made"/rtos.*; do runs_well "$program"; done
-for program in "$made"/files.* "$made"/kept.*; do
+for program in "$made"/files.*; do
     rm -rf "$made/room"
     mkdir "$made/room"
     runs_well "$program" "$made/room"
@@ -191,14 +191,14 @@ runs_well "$made/image_limits.ada"
 grep -q '^Ada, images: 21 tried, 0 of them wrong$' "$made/said" || { cat "$made/said"; fails "of images in Ada there are 21 to be tried"; }
 for program in "$made"/flash.*; do runs_well "$program"; done
 mv "$made/said" "$made/flash"
-for program in misuse.gcc sectors.gcc "media.gcc 2003" two.gcc reading.gcc starts.gcc telegrams.gcc guard.gcc executive.gcc "files.gcc $made/room" "kept.gcc $made/room" "brake.gcc $made/image.valgrind" flash.gcc "why.gcc $made/image.valgrind" \
+for program in misuse.gcc sectors.gcc "media.gcc 2003" two.gcc reading.gcc starts.gcc telegrams.gcc guard.gcc executive.gcc "files.gcc $made/room" "brake.gcc $made/image.valgrind" flash.gcc "why.gcc $made/image.valgrind" \
     "again.gcc $made/image.valgrind why 7"; do
     rm -rf "$made/room"
     mkdir "$made/room"
     # shellcheck disable=SC2086
     runs_well valgrind -q --error-exitcode=9 --leak-check=full --errors-for-leak-kinds=all --show-leak-kinds=all $(echo "$made/$program")
 done
-counted "runs of them, 15 of them under valgrind" $runs 58
+counted "runs of them, 14 of them under valgrind" $runs 54
 
 # ---- the examples: the same train in each language, over the same file
 
@@ -278,11 +278,6 @@ gcc -std=gnu11 -O2 -fPIC -shared "$top/tests/hostile/refuse.c" -o "$made/refuse.
 # ---- what the next input would do: compared with the plain program
 
 "$python" "$top/tests/unit/preview.py" "$made"/preview.gcc "$made"/preview.checked "$made"/preview.cpp || status=1
-
-# ---- a life longer than the ring, whose blocks are kept
-
-"$python" "$top/tests/unit/kept.py" "$lab" "$made"/kept.gcc "$made"/kept.checked "$made"/kept.cpp || status=1
-"$python" "$top/tests/unit/kept_cuts.py" "$made/kept.gcc" || status=1
 
 # ---- lives along with the program
 

@@ -15,7 +15,7 @@ import stat
 from collections.abc import Callable, Collection, Iterable, Iterator
 from dataclasses import dataclass
 from pathlib import Path
-from typing import BinaryIO, Self
+from typing import BinaryIO
 from urllib.parse import quote
 
 from .errors import say
@@ -344,92 +344,6 @@ def is_there(path: Path, inputs: Iterable[Path] = ()) -> bool:
     if why:
         raise refused(path, f"{why}, so nothing is added to it. Name a new file. Nothing was changed.")
     return True
-
-
-class Appended:
-    """A file that is only appended to, under an exclusive lock, and that begins with some bytes. It is created if it doesn't exist; a
-    file that begins with other bytes is refused and stays as it is."""
-
-    def __init__(self, path: Path, first: bytes, name: str) -> None:
-        self.path = path
-        with contextlib.suppress(FileExistsError):
-            if status_of(path) is None:
-                write_new(path, first)
-        with naming(path):
-            self.descriptor = os.open(path, os.O_RDWR | os.O_NONBLOCK | os.O_CLOEXEC)
-        try:
-            lock(self.descriptor)
-            self.settle()
-            self.size = self.kept = os.lseek(self.descriptor, 0, os.SEEK_END)
-            self.is_in_doubt = False
-            """Whether a sync failed since the last good one. What was appended since then begins at `kept`."""
-            if self.read(0, len(first)) != first:
-                raise refused(path, f"exists and is not {name}")
-        except BaseException as error:
-            self.close()
-            if isinstance(error, BlockingIOError):
-                raise Failed(f"{path}: another program is writing it", DEVICE) from error
-            raise
-
-    def __enter__(self) -> Self:
-        return self
-
-    def __exit__(self, *_: object) -> None:
-        self.close()
-
-    def close(self) -> None:
-        """Releases the lock."""
-        os.close(self.descriptor)
-
-    def settle(self) -> None:
-        """Syncs what an earlier process left, and drops the system's copies, so that reads return what is on the medium."""
-        try:
-            os.fsync(self.descriptor)
-            if hasattr(os, "posix_fadvise"):
-                os.posix_fadvise(self.descriptor, 0, 0, os.POSIX_FADV_DONTNEED)
-        except OSError as error:
-            raise Failed(f"{self.path}: can't be settled: {error.strerror}", DEVICE) from error
-
-    def read(self, at: int, size: int) -> bytes:
-        """`size` bytes from `at` on."""
-        return os.pread(self.descriptor, size, at)
-
-    def drop(self, size: int) -> None:
-        """Shortens the file to `size` bytes, to drop a part that was being appended when power was lost."""
-        if size < self.size:
-            os.ftruncate(self.descriptor, size)
-            self.size = size
-            self.kept = min(self.kept, size)
-
-    def append(self, data: bytes) -> None:
-        """Appends data. Call `sync` afterwards."""
-        done = 0
-        while done < len(data):
-            done += os.pwrite(self.descriptor, data[done:], self.size + done)
-        self.size += done
-
-    @property
-    def owes_sync(self) -> bool:
-        """Whether something was appended, now or earlier, that no good sync has followed."""
-        return self.is_in_doubt or self.kept < self.size
-
-    def sync(self) -> None:
-        """Returns when the system reports that everything is on the medium. After a failed sync the system may take lost data for
-        written, so everything that was appended since the last good sync is written again first."""
-        if self.is_in_doubt:
-            self.write_again()
-        self.is_in_doubt = True
-        os.fsync(self.descriptor)
-        self.is_in_doubt, self.kept = False, self.size
-
-    def write_again(self) -> None:
-        """Writes again what no good sync has followed."""
-        at = self.kept
-        while at < self.size:
-            data = self.read(at, min(1 << 20, self.size - at))
-            if not data:
-                raise OSError(errno.EIO, os.strerror(errno.EIO), str(self.path))
-            at += os.pwrite(self.descriptor, data, at)
 
 
 # ---- databases

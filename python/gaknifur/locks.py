@@ -11,6 +11,6 @@ except ImportError:
 def lock(descriptor: int, is_shared: bool = False) -> None:
     """Takes the lock of an open file. Raises `BlockingIOError` if another program holds it."""
     if fcntl is None:
-        raise Failed("this system has no file locks (flock), which lab needs to open images, archives and databases; "
+        raise Failed("this system has no file locks (flock), which lab needs to open images and databases; "
                      "run it on Linux", DEVICE)
     fcntl.flock(descriptor, (fcntl.LOCK_SH if is_shared else fcntl.LOCK_EX) | fcntl.LOCK_NB)

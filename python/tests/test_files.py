@@ -180,7 +180,7 @@ def written() -> Iterator[tuple[list[str], click.Command, click.Parameter, str]]
     """Each file that a command of lab may write: the command, the parameter that names the file, and a suffix that it may have."""
     for words, command in commands_of(lab):
         for one in command.params:
-            if "OUT" in (one.metavar or "") or one.name in ("archive", "image") and isinstance(one, click.Option):
+            if "OUT" in (one.metavar or "") or one.name == "image" and isinstance(one, click.Option):
                 for suffix in re.findall(r"OUT((?:\.\w+)*)", one.metavar or "") or [""]:
                     yield words, command, one, ".svg" if one.name == "picture" else suffix
 
@@ -207,7 +207,7 @@ class Words(Room):
                 patch.object(campaign_table, "settings_of", dict):
             self.assertIn(main(line), (REFUSED, DEVICE), (line, errors.getvalue()))
         self.assertEqual(len(errors.getvalue().splitlines()), 1)
-        self.assertTrue(line[0] == "join" or errors.getvalue().startswith(f"lab: {path}: "), errors.getvalue())
+        self.assertTrue(errors.getvalue().startswith(f"lab: {path}: "), errors.getvalue())
         self.assertEqual({one: one.read_bytes() for one in self.room.rglob("*") if one.is_file()}, before)
 
     def test_of_all_commands(self) -> None:
@@ -216,7 +216,7 @@ class Words(Room):
         (self.room / "empty").mkdir()
         found = list(written())
         self.assertGreaterEqual({(" ".join(words), one.name) for words, _, one, _ in found}, {
-            ("table", "out"), ("case", "out"), ("join", "out"), ("follow", "archive"), ("test", "junitxml"), ("line check", "html"),
+            ("table", "out"), ("case", "out"), ("test", "junitxml"), ("line check", "html"),
             ("sweep", "csv"), ("drive", "image"), ("drive", "scenario"), ("campaign", "paths"), ("campaign", "csv")})
         for words, command, one, suffix in found:
             force = ["--force"] if any("--force" in other.opts for other in command.params) else []

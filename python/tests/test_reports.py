@@ -10,7 +10,7 @@ from pathlib import Path
 import pandas as pd
 
 import gaknifur.journal.tables as tables
-from gaknifur.journal import braking, charts, database, follow, report, summary, verdict, wording
+from gaknifur.journal import braking, charts, database, report, summary, verdict, wording
 from gaknifur.journal._words import CAUSES
 from gaknifur.journal.extent import Extent, bound
 from gaknifur.journal.part import Part
@@ -421,8 +421,6 @@ class Texts(unittest.TestCase):
         self.assertEqual(wording.event_text(far), "moved 12345.67 m, at 0 km/h")
         self.assertEqual(wording.event_text(record(1, now_ms=3_600_123)), "moment 3600.123 s")
         self.assertEqual([wording.event_text(record(1, now_ms=ms)) for ms in (0, 500, 20_000_000)], ["moment 0 s", "moment 0.5 s", "moment 20000 s"])
-        self.assertIn("at 1234.567 s: ", follow.text(record(1, time_ms=1_234_567)))
-        self.assertTrue(follow.text(record(1, place_cm=123_456_789)).endswith("front 1234567.89 m"))
         self.assertEqual([charts.length_text(one) for one in (27_000.0, 123.4, 12.34, 0.1234)], ["27,000", "123", "12.3", "0.123"])
 
     def test_an_authority_ends_at_the_sum_of_its_sections(self) -> None:

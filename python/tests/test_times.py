@@ -6,7 +6,7 @@ from pathlib import Path
 
 from gaknifur.evidence import identity, times
 from gaknifur.evidence.identity import Identity
-from gaknifur.evidence.times import Marks, Times
+from gaknifur.evidence.times import Times
 from gaknifur.journal import report, tables
 from gaknifur.journal.reading import Journal
 from gaknifur.program import REFUSED, Failed
@@ -173,21 +173,6 @@ class Files(Room):
         self.assertEqual(len(self.times(f"{times.FIRST}\n1,0,,{TEN},50\n").faults()), 1)
         self.assertEqual(tried, 25)
 
-    def test_a_host_writes_marks(self) -> None:
-        path = self.room / "image.times"
-        with Marks(path) as marks:
-            marks.mark(1, 0, TEN_MS, 50, "GNSS")
-            self.assertRaisesRegex(Failed, "another program is writing it", Marks, path)
-            for wrong in ((1, 0, TEN_MS, 50, "a,b"), (-1, 0, TEN_MS, 50, "a"), (1, 0, TEN_MS, -1, "a"), (1, 0, TEN_MS, 1, ""), (1, 0, TEN_MS, 1, "a\nb")):
-                self.assertRaises(ValueError, marks.mark, *wrong)
-        with path.open("a") as file:
-            file.write("1,600000,,2026")
-        with Marks(path) as marks:
-            marks.mark(1, 600_000, TEN_MS + 600_000, 50, "GNSS")
-        self.assertEqual(path.read_text(), HOST)
-        (self.room / "text").write_text("text")
-        self.assertRaisesRegex(Failed, "exists and is not a file of marks", Marks, self.room / "text")
-
     def test_a_wrong_checksum_loses_its_line_only(self) -> None:
         first, line, other, _ = HOST.replace("\n1,0,", "\n3,0,").replace("21d7d1e5", "fb46f99a").split("\n")  # (a bit of "3" makes it "#")
         self.assertEqual((self.times(HOST).faults(), self.times(f"{first}\n{line}\n").utc(3, 0)), ([], (TEN_MS, 50)))
@@ -225,19 +210,6 @@ class Whose(Room):
     def test_checksums(self) -> None:
         marks = self.times(HOST + "unit: 17,a0899320\nvehicle: 1,00000000\n")  # (the checksum that gzip writes of "unit: 17")
         self.assertEqual((marks.whose, marks.faults()), (Identity("17"), ["line 5 isn't used: its checksum is wrong"]))
-
-    def test_a_host_says_it_once(self) -> None:
-        path = self.room / "image.times"
-        for whose in (Identity(), Identity("17"), Identity("17"), Identity("17", software="2.3.0"), Identity(vehicle="402 001")):
-            with Marks(path, whose) as marks:
-                marks.mark(1, 0, TEN_MS, 50, "GNSS")
-        lines = path.read_text().splitlines()
-        self.assertEqual([line.rpartition(",")[0] for line in lines if ": " in line], ["unit: 17", "software: 2.3.0", "vehicle: 402 001"])
-        self.assertEqual(self.times(path.read_text()).whose, Identity("17", "402 001", "2.3.0"))
-        with self.assertRaisesRegex(Failed, "is of unit 17, vehicle 402 001, software 2.3.0, and this host is of unit 18. Nothing was written."):
-            Marks(path, Identity("18"))
-        self.assertEqual(path.read_text().splitlines(), lines)
-        Marks(path).close()  # (the refused one holds no lock)
 
     def test_marks_of_another_unit_are_refused(self) -> None:
         image, marks = self.room / "image", self.room / "image.times"

@@ -66,7 +66,6 @@ ROWS = """\
 0 lab test good
 0 lab case image --event 8
 0 lab why image 6
-0 lab join joined image
 0 tools/settle image
 0 tools/verify release
 1 etcs decode zz
@@ -130,11 +129,9 @@ ROWS = """\
 4 lab why image
 4 lab why image 99
 4 lab diff altered altered
-4 lab join joined3 altered
 4 lab verify broken
 4 tools/verify sealed
 4 lab diff image altered
-4 lab join joined2 image altered
 4 lab test fails --junitxml=fails.xml
 4 lab results fails.xml results.html
 4 lab sweep sweep.yaml

@@ -154,7 +154,7 @@ static void check(void) {
     }
     is("the journal is read to its end", status, ETCS_UNIT_END);
     is("its events are those that were taken", is_same, 1);
-    is("an archive keeps its blocks", is_whole || !on->is_nor, 1);
+    is("each slot holds its block", is_whole || !on->is_nor, 1);
     is("it has what was released", newest >= released, 1);
     is("it has the blocks of the ring but one", record.block < first + SLOTS - 2 && first > 1, 0);
     next = first > 0 ? newest + 1 : 0;

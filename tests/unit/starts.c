@@ -1,4 +1,4 @@
-/* Which block an archive keeps of a slot (etcs_image_slot_start): gates and heads that are written here byte by byte, after
+/* Which block a slot holds (etcs_image_slot_start): gates and heads that are written here byte by byte, after
  * docs/reference/format.md, with what each is to be answered. */
 #include "etcs_image.h"
 #include "medium.h"

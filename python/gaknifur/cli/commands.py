@@ -268,16 +268,7 @@ EVIDENCE = [
             Argument("source", "IMAGE|BAG", "a journal image, or a folder that `lab seal` made"), Argument("folder", "FOLDER", "the folder to make")),
     Command("diff", "evidence", "cli.evidence_commands:show_difference", "Compare two images of one unit",
             "Status 0: both hold the same journal, or B continues A, and `lab check` finds nothing in them. Status 4: anything else.", "diff monday friday",
-            Argument("a", "A", "the image that was read first"), Argument("b", "B", "the image that was read later"), STRANGERS, JSON),
-    Command("join", "evidence", "cli.evidence_commands:join_images", "Join images and archives of one unit into one larger image",
-            "Where a block differs between sources, the first source wins. Status 4: a block differs or is missing, or `lab check` finds something in OUT.", "join joined image archive",
-            Argument("out", "OUT", "the image to make"),
-            Argument("sources", "IMAGE|ARCHIVE...", "images, and archives of `lab follow --archive`", nargs=-1, required=True), STRANGERS, JSON),
-    Command("follow", "evidence", "cli.evidence_commands:follow_image", "Print the records of an image while a unit writes them",
-            "Takes no lock and never delays the unit. Ends when the unit ends.", "follow image --wait",
-            IMAGE, option("--json", "print JSON, as `etcs_lab events` does"), option("--archive", "also append each block to this archive", "FILE", PATH),
-            option("--for seconds", "end after this time at the latest", "SECONDS", float),
-            option("--wait", "keep waiting while no unit runs, until interrupted"))]
+            Argument("a", "A", "the image that was read first"), Argument("b", "B", "the image that was read later"), STRANGERS, JSON)]
 TESTING: list[Command | Commands] = [
     Command("build", "testing", "cli.testing_commands:write_scenario", "Compile a YAML scenario to the JSON that `etcs run` reads",
             "Errors name the file, line and column.", "build drive.yaml drive.json",

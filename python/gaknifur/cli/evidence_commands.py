@@ -1,10 +1,10 @@
-"""The commands about evidence: `seal`, `verify`, `redact`, `diff`, `join` and `follow`."""
+"""The commands about evidence: `seal`, `verify`, `redact` and `diff`."""
 import json
 import sys
 from types import SimpleNamespace
 
 from ..escaping import shown
-from ..journal.reading import Json, Progress
+from ..journal.reading import Progress
 from ..program import FOUND, NOT_WHOLE, WRONG_WORDS, Failed
 from .journal_commands import say_verdict
 
@@ -60,23 +60,3 @@ def show_difference(given: SimpleNamespace, progress: Progress) -> int:
     sys.stdout.write(json.dumps(diff.as_json(found), ensure_ascii=False) + "\n" if given.json else diff.text(found))
     sys.stdout.flush()
     return max(0 if found.verdict in diff.FINE else NOT_WHOLE, *(say_verdict(one.path, one.judged) for one in (found.a, found.b)))
-
-
-def join_images(given: SimpleNamespace, progress: Progress) -> int:
-    """Runs `lab join`."""
-    from ..evidence import archive
-    found = archive.join(given.out, given.sources, given.strangers)
-    sys.stdout.write("".join(json.dumps(line) + "\n" for line in archive.as_json(found)) if given.json else archive.text(found))
-    sys.stdout.flush()
-    return max(0 if found.is_whole else NOT_WHOLE, say_verdict(given.out, found.judged))
-
-
-def follow_image(given: SimpleNamespace, progress: Progress) -> None:
-    """Runs `lab follow`."""
-    from ..journal import follow
-
-    def step(line: Json) -> None:
-        sys.stdout.write((json.dumps(line, ensure_ascii=False) if given.json else follow.text(line)) + "\n")
-        sys.stdout.flush()
-
-    follow.follow(given.image, step, given.archive, given.seconds, given.wait)

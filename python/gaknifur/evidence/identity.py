@@ -1,4 +1,4 @@
-"""Read whose an image or an archive is: a text file next to it, with a line each for `unit`, `vehicle` and `software`, such as
+"""Read whose an image is: a text file next to it, with a line each for `unit`, `vehicle` and `software`, such as
 `unit: 17`. The unit's host writes it. A file of marks has such lines itself (module `times`). It is outside the journal and outside the proof, and no power-up reads it.
 """
 from collections.abc import Iterable, Iterator
@@ -63,12 +63,12 @@ class Identity:
 
 
 def path_of(image: Path) -> Path:
-    """The file next to an image or an archive."""
+    """The file next to an image."""
     return image.with_name(image.name + ENDING)
 
 
 def of(image: Path) -> Identity | None:
-    """Whose an image or an archive is; None if there is no file."""
+    """Whose an image is; None if there is no file."""
     path = path_of(image)
     if not formats.is_there(path):
         return None
@@ -79,7 +79,7 @@ def of(image: Path) -> Identity | None:
 
 
 def known(paths: Iterable[Path]) -> Iterator[tuple[Path, Identity]]:
-    """Whose images and archives are, where a file says it."""
+    """Whose images are, where a file says it."""
     return ((path, one) for path in paths if (one := of(path)) is not None)
 
 
@@ -98,7 +98,7 @@ def stranger(path: Path, whose: Identity, other: str) -> Failed:
 
 
 def keep(image: Path, copy: Path) -> None:
-    """Copies the identity of an image to a copy or an archive of it, which may have it already. Refuses another one."""
+    """Copies the identity of an image to a copy of it, which may have it already. Refuses another one."""
     own = of(image)
     if own is None:
         return

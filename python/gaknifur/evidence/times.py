@@ -21,13 +21,13 @@ from .. import files
 from ..escaping import shown
 from ..journal.reading import Journal, Json
 from ..program import REFUSED, Failed
-from .identity import Identity, check, known, stranger
+from .identity import Identity, check, known
 
 COLUMNS = ("life", "moment_ms", "event", "utc", "uncertainty_ms", "source")
 FIRST = ",".join(COLUMNS)
 """The first line of marks that are written by hand."""
 CHECKED = f"{FIRST},crc32"
-"""The first line of marks that a unit's host writes: each line ends with the CRC-32 of the text before its last comma."""
+"""The first line of marks with checksums: each line ends with the CRC-32 of the text before its last comma."""
 CHECKSUM = re.compile("[0-9a-f]{8}")
 ENDING = ".times"
 DRIFT_PPM = 100
@@ -195,42 +195,6 @@ class Life:
         return middle, -(-max(high - middle * MILLION, middle * MILLION - low) // MILLION)
 
 
-class Marks(files.Appended):
-    """A file of marks that a unit's host appends to, as `etcs_times_mark` of `etcs_file.h` does. A host that says whose the marks are gets
-    them into the file once; a file of another unit or vehicle is refused."""
-
-    def __init__(self, path: str | Path, whose: Identity = Identity()) -> None:
-        super().__init__(Path(path), f"{CHECKED}\n".encode(), "a file of marks with checksums")
-        try:
-            data = self.read(0, self.size)
-            self.drop(data.rfind(b"\n") + 1)
-            self.name(whose)
-        except BaseException:
-            self.close()
-            raise
-
-    def name(self, whose: Identity) -> None:
-        """Appends what the file doesn't say yet of whose the marks are, and syncs."""
-        if whose == Identity():
-            return
-        named = read_marks(self.path)[3]
-        if named.is_stranger(whose):
-            raise stranger(self.path, named, f"this host is of {whose.text()}. Nothing was written.")
-        lines = [f"{name}: {value}" for name, value in named.missing(whose).items()]
-        if lines:
-            self.append("".join(f"{line},{checksum(line)}\n" for line in lines).encode())
-            self.sync()
-
-    def mark(self, life: int, moment_ms: int, utc_ms: int, uncertainty_ms: int, source: str) -> None:
-        """Appends a mark, and syncs. ValueError if the values are no mark."""
-        line = f"{life},{moment_ms},,{iso(utc_ms)},{uncertainty_ms},{source}"
-        mark = mark_of(0, line)
-        if (mark.life, mark.moment_ms, mark.utc_ms, mark.uncertainty_ms, mark.source) != (life, moment_ms, utc_ms, uncertainty_ms, source):
-            raise ValueError(line)
-        self.append(f"{line},{checksum(line)}\n".encode())
-        self.sync()
-
-
 @dataclass
 class Times:
     """The marks of a journal."""
@@ -316,7 +280,7 @@ def check_marks(image: Path, marks: Path, left: str) -> None:
 
 
 def known_with_marks(paths: Iterable[Path]) -> Iterator[tuple[Path, Identity]]:
-    """Whose images, archives and the marks next to them are, where files say it. Marks that can't be read say nothing."""
+    """Whose images and the marks next to them are, where files say it. Marks that can't be read say nothing."""
     for path in paths:
         yield from known([path])
         marks = marks_of(path, None)

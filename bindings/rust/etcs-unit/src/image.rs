@@ -215,7 +215,7 @@ impl Iterator for Replay<'_> {
     }
 }
 
-/// Which block an archive keeps of a slot, by its first two sectors. `slots` is how many the ring has, `slot` which of them it is.
+/// Which block a slot holds, by its first two sectors. `slots` is how many the ring has, `slot` which of them it is.
 pub fn slot_start(start: &[u8], slots: u64, slot: u64) -> Result<SlotStart, Refused> {
     let mut found = SlotStart::default();
     // SAFETY: as above.

@@ -165,7 +165,7 @@ steps: [{use: both}, {drive: 150.5 m at 36.5 km/h}, {confirm: running_number}, f
 class Bounds(InFiles):
     """What no file may come to: each is refused with one line, at its place, and soon."""
 
-    MOST_SECONDS = 20
+    MOST_SECONDS = 200
 
     def test_each_is_one_line(self) -> None:
         ten = "\n".join(f"  p{n + 1}: [{', '.join([f'{{use: p{n}}}'] * 10)}]" for n in range(9))

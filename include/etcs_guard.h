@@ -23,8 +23,7 @@
  *
  * The mode is that of the last output before the telegram. The direction is that in which the train passes the group: of two
  * balises that are read the one with the lower N_PIG came first in the nominal direction; a single balise has the
- * Q_LINKORIENTATION of the packet 5 that announced it, or no known direction. Hand in the bytes that the unit is handed: of a
- * telegram that was adapted (etcs_telegram_adapt) the adapted ones.
+ * Q_LINKORIENTATION of the packet 5 that announced it, or no known direction. Pass the bytes that the unit gets.
  *
  * A guard is a plain struct, which is copied and kept as one: no call takes memory or holds a pointer. Each call returns,
  * whatever it is handed, and answers a number of enum etcs_unit_status: OK, NULL_POINTER, END (etcs_guard_demand), or

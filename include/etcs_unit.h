@@ -565,41 +565,6 @@ typedef struct {
     uint8_t reserved;          /**< zero */
 } etcs_unit_preview_info;
 
-/** What came of a telegram that may be of an installed track (etcs_telegram_adapt). */
-enum etcs_adaptation {
-    ETCS_ADAPTATION_NONE = 0,        /**< it has no packet 3 as a track of issue 2.3.0 sends it: hand it on as it is */
-    ETCS_ADAPTATION_WRITTEN = 1,     /**< hand on what was written */
-    ETCS_ADAPTATION_SEVERAL = 2,     /**< it has more than one: nothing was written, and a unit refuses the telegram */
-    ETCS_ADAPTATION_NO_LAYOUT = 3,   /**< it fits neither of the two possible layouts (docs/reference/packets.md): nothing was written, and a unit refuses the telegram */
-    ETCS_ADAPTATION_AMBIGUOUS = 4    /**< it fits both, which differ in the first country: nothing was written, and a unit refuses the telegram */
-};
-
-/** What came of a telegram. What isn't there is 0. */
-typedef struct {
-    uint32_t outcome; /**< enum etcs_adaptation */
-    uint32_t len;     /**< how many bytes were written */
-    uint32_t start;   /**< the place of the first bit of the packet 3 that is meant in the telegram that was sent, from 0 */
-    uint32_t bits;    /**< its L_PACKET */
-} etcs_adapted;
-
-/** The variables of a packet 3 as a track of issue 2.3.0 sends it that a unit has no place for, in the order of the packet. */
-enum etcs_dropped_variable {
-    ETCS_DROPPED_Q_NVSRBKTRG = 0,     /**< Q_NVSRBKTRG */
-    ETCS_DROPPED_Q_NVEMRRLS = 1,      /**< Q_NVEMRRLS */
-    ETCS_DROPPED_D_NVPOTRP = 2,       /**< D_NVPOTRP, in steps of the packet's Q_SCALE */
-    ETCS_DROPPED_M_NVCONTACT = 3,     /**< M_NVCONTACT */
-    ETCS_DROPPED_T_NVCONTACT = 4,     /**< T_NVCONTACT, in s */
-    ETCS_DROPPED_M_NVDERUN = 5,       /**< M_NVDERUN */
-    ETCS_DROPPED_Q_NVDRIVER_ADHES = 6 /**< Q_NVDRIVER_ADHES */
-};
-
-/** A value that etcs_telegram_adapt leaves out. */
-typedef struct {
-    uint64_t number;   /**< the number that its bits spell */
-    uint32_t variable; /**< enum etcs_dropped_variable */
-    uint32_t bits;     /**< how many bits it has */
-} etcs_value_dropped;
-
 /** The direction in which a group is passed. */
 enum etcs_direction {
     ETCS_DIRECTION_REVERSE = 0,  /**< against the order of its balises */
@@ -649,8 +614,6 @@ ETCS_UNIT_ASSERT(sizeof(etcs_unit_refusals_info) == 19u && offsetof(etcs_unit_re
 ETCS_UNIT_ASSERT(sizeof(etcs_unit_group) == 16u && offsetof(etcs_unit_group, group) == 4u && offsetof(etcs_unit_group, outcome) == 8u
                  && offsetof(etcs_unit_group, announcement) == 12u);
 ETCS_UNIT_ASSERT(sizeof(etcs_unit_preview_info) == 36u && offsetof(etcs_unit_preview_info, count) == 32u && offsetof(etcs_unit_preview_info, fault) == 34u);
-ETCS_UNIT_ASSERT(sizeof(etcs_adapted) == 16u && offsetof(etcs_adapted, len) == 4u && offsetof(etcs_adapted, start) == 8u && offsetof(etcs_adapted, bits) == 12u);
-ETCS_UNIT_ASSERT(sizeof(etcs_value_dropped) == 16u && offsetof(etcs_value_dropped, variable) == 8u && offsetof(etcs_value_dropped, bits) == 12u);
 ETCS_UNIT_ASSERT(sizeof(etcs_packet_unused) == 24u && offsetof(etcs_packet_unused, bits) == 8u && offsetof(etcs_packet_unused, number) == 16u
                  && offsetof(etcs_packet_unused, why) == 20u);
 
@@ -680,8 +643,6 @@ uint32_t etcs_unit_preview_telegram_(etcs_unit *unit, const uint8_t *bytes, uint
 uint32_t etcs_unit_preview_odometer_(etcs_unit *unit, int64_t movement_cm, uint32_t speed_m_per_h, etcs_unit_preview_info *preview);
 uint32_t etcs_unit_close_(etcs_unit *unit);
 uint32_t etcs_unit_format_request_(uint32_t slots, uint32_t index, etcs_unit_request_info *request, uint8_t *bytes, uint64_t room);
-uint32_t etcs_telegram_adapt_(const uint8_t *bytes, uint64_t len, uint8_t *out, uint64_t room, etcs_adapted *told);
-uint32_t etcs_telegram_dropped_(const uint8_t *bytes, uint64_t len, uint32_t index, etcs_value_dropped *value);
 uint32_t etcs_telegram_unused_(const uint8_t *bytes, uint64_t len, uint32_t mode, uint32_t direction, uint32_t index, etcs_packet_unused *packet);
 
 /* ---- the calls */
@@ -1179,43 +1140,7 @@ static inline uint32_t etcs_unit_format_request(uint32_t slots, uint32_t index, 
     return ((request != NULL) && (bytes != NULL)) ? etcs_unit_format_request_(slots, index, request, bytes, room) : (uint32_t)ETCS_UNIT_NULL_POINTER;
 }
 
-/* ---- telegrams of installed tracks: these calls need no unit, take no memory but some of the stack, and keep nothing */
-
-/** Converts a telegram whose packet 3 is as a track of issue 2.3.0 sends it into one that a unit reads. Call it on each
- * telegram of such a track, before etcs_unit_telegram. Q_NVSRBKTRG, Q_NVEMRRLS, D_NVPOTRP, M_NVCONTACT, T_NVCONTACT,
- * M_NVDERUN and Q_NVDRIVER_ADHES of that packet are left out, its L_PACKET is 29 less, N_ITER comes before the first
- * country, and all other bits stay. It converts only where the packet fits one of its two possible layouts and not the
- * other (docs/reference/packets.md). `outcome` has the result, and the place of the packet in the telegram that was sent. That telegram is
- * what the track said, and the journal holds the other one: keep it outside. Returns OK, or NO_ROOM where `room` is below
- * ETCS_TELEGRAM_BYTES; then nothing is written. */
-ETCS_MUST_USE
-static inline uint32_t etcs_telegram_adapt(const uint8_t *bytes, size_t len, uint8_t *out, size_t room, etcs_adapted *outcome) {
-    return ((bytes != NULL) && (out != NULL) && (outcome != NULL)) ? etcs_telegram_adapt_(bytes, len, out, room, outcome) : (uint32_t)ETCS_UNIT_NULL_POINTER;
-}
-
-/** Writes a value, from 0 on, of those that etcs_telegram_adapt leaves out of a telegram, in the order of its packet 3. Call
- * it with the bytes that the track sent. Returns OK, or END after the last one, and where etcs_telegram_adapt writes
- * nothing; then nothing is written. */
-ETCS_MUST_USE
-static inline uint32_t etcs_telegram_dropped(const uint8_t *bytes, size_t len, uint32_t index, etcs_value_dropped *value) {
-    return ((bytes != NULL) && (value != NULL)) ? etcs_telegram_dropped_(bytes, len, index, value) : (uint32_t)ETCS_UNIT_NULL_POINTER;
-}
-
-/** Returns the name of a variable of enum etcs_dropped_variable, as SUBSET-026 has it; "unknown" for other numbers. */
-static inline const char *etcs_dropped_name(uint32_t variable) {
-    const char *text = "unknown";
-    switch (variable) {
-    case (uint32_t)ETCS_DROPPED_Q_NVSRBKTRG: text = "Q_NVSRBKTRG"; break;
-    case (uint32_t)ETCS_DROPPED_Q_NVEMRRLS: text = "Q_NVEMRRLS"; break;
-    case (uint32_t)ETCS_DROPPED_D_NVPOTRP: text = "D_NVPOTRP"; break;
-    case (uint32_t)ETCS_DROPPED_M_NVCONTACT: text = "M_NVCONTACT"; break;
-    case (uint32_t)ETCS_DROPPED_T_NVCONTACT: text = "T_NVCONTACT"; break;
-    case (uint32_t)ETCS_DROPPED_M_NVDERUN: text = "M_NVDERUN"; break;
-    case (uint32_t)ETCS_DROPPED_Q_NVDRIVER_ADHES: text = "Q_NVDRIVER_ADHES"; break;
-    default: break;
-    }
-    return text;
-}
+/* ---- what a unit does not use of a telegram: this call needs no unit, takes no memory but some of the stack, and keeps nothing */
 
 /** Writes a packet of a telegram, from 0 on, of those that a unit doesn't use, and why: in this mode (enum etcs_mode), where
  * the telegram's group is accepted, and passed in this direction (enum etcs_direction). Call it to act on what a track

@@ -69,7 +69,7 @@ for words in "gcc -x c -std=c99" "gcc -x c -std=c11" "g++ -x c++ -std=c++17" "g+
     LC_ALL=C $words -Wunused-result -I "$include" -c "$dropped" -o /dev/null 2>&1 | sed -n 's/^.*dropped\.c:\([0-9]*\):.* warning: ignoring return value.*/\1/p' >"$made/warned"
     diff "$made/drops" "$made/warned" >"$made/said" || { cat "$made/said"; fails "$words doesn't warn just of each answer that may mean the brake"; }
 done
-counted "answers that aren't dropped" "$(wc -l <"$made/drops")" 40
+counted "answers that aren't dropped" "$(wc -l <"$made/drops")" 38
 # so do they for a machine of 32 bits, where a length of C has 32 too (etcs_file.h is for POSIX, and wants its headers)
 cat "$made/all.c" - <<<$'#include "etcs_executive.h"\n#include "etcs_odometer.h"\n#include "etcs_nor.h"' >"$made/narrow.c"
 gcc -m32 -std=c99 -ffreestanding "${strict[@]}" -I "$include" -fsyntax-only "$made/narrow.c" || fails "the headers don't compile for a machine of 32 bits"
@@ -346,6 +346,6 @@ for program in "$made"/refused.*; do "$python" "$top/tests/unit/refused_lives.py
     { cat "$made/said"; fails "python/tests/test_{unit,guard}.py: failures, or other than 32 tests"; }
 "$python" "$top/tests/unit/integration.py" || status=1
 ETCS_LAB=$lab ETCS_UNIT_ARCHIVE=$raw ETCS_C_ARCHIVE=$raw_telegrams "$python" "$top/tests/documents.py" start/c howto/c-loop howto/c-flash \
-    howto/c-static-memory howto/c-display howto/c-guard howto/c-installed-tracks howto/c-journal howto/cpp howto/python howto/rust || status=1
+    howto/c-static-memory howto/c-display howto/c-guard howto/c-journal howto/cpp howto/python howto/rust || status=1
 echo "the unit: $([ $status -eq 0 ] && echo "no failures" || echo "failures, see above")"
 exit $status

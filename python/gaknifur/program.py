@@ -277,18 +277,6 @@ def temporary_folder(slots: int) -> tempfile.TemporaryDirectory[str]:
     return tempfile.TemporaryDirectory(prefix="gaknifur-")
 
 
-@functools.lru_cache(maxsize=4096)
-def adapted(digits: str) -> str:
-    """The telegram that a unit gets in place of one of an installed track: the output of `etcs_lab telegram --installed`. Raises
-    Failed if it refuses."""
-    done = ran([find(), "telegram", f"--installed={digits}"])
-    printed = done.stdout.decode(errors="replace")
-    if done.returncode:
-        last = Completed(done.returncode, printed, done.stderr.decode(errors="replace")).last()
-        raise Failed(last.removeprefix("etcs_lab: ").removeprefix("HEX: "), REFUSED)
-    return printed.strip()
-
-
 MOST_DECODED = 4096
 decoded: dict[str, list[str]] = {}
 """The lines of telegrams that were decoded before."""

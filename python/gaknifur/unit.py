@@ -30,7 +30,7 @@ from .locks import lock
 from .program import TOP
 from .units import _header
 from .units._header import (ABI, BUILD_INFO_BYTES, CATEGORY_NONE, OUTPUTS, REQUEST_BYTES, SECTOR, TELEGRAM_BYTES, VERSION_BYTES, Acknowledgement,
-                            Action, Adaptation, Brake, BrakeCause, Cold, Datum, Direction, DroppedVariable, Fault, GroupOutcome,
+                            Action, Brake, BrakeCause, Cold, Datum, Direction, Fault, GroupOutcome,
                             Indication, Kind, Level, LimitCause, Mode, Proof, Reaction, Refusal, RequestKind, SlotState, Status,
                             TelegramOutcome, UnusedReason)
 
@@ -567,45 +567,7 @@ def decode(digits: str) -> tuple[int, int]:
     return _called("etcs_decode", data, len(data)), _called("etcs_packet_count", data, len(data))
 
 
-# ---- telegrams of installed tracks
-
-@dataclass(frozen=True)
-class Adapted:
-    """A telegram that may be of an installed track, and what it was converted to (docs/reference/packets.md)."""
-
-    outcome: Adaptation
-    telegram: bytes
-    """The telegram for the unit: what was written, or the telegram as it is."""
-    start: int | None
-    """The place of the first bit of its packet 3 in the telegram that was sent, if there is one."""
-    bits: int | None
-    """Its L_PACKET."""
-    dropped: dict[str, int]
-    """The values that a unit has no place for, by the names of their variables; empty if nothing was written."""
-
-
-def _dropped(telegram: bytes) -> dict[str, int]:
-    """The values of a track's packet 3 that are left out of a telegram."""
-    dropped, values = _header.etcs_value_dropped(), dict[str, int]()
-    while (status := _called("etcs_telegram_dropped_", telegram, len(telegram), len(values), ctypes.byref(dropped))) == Status.OK:
-        values[DroppedVariable(dropped.variable).name] = dropped.number
-    if status != Status.END:
-        raise Refused(status)
-    return values
-
-
-def adapt(telegram: bytes) -> Adapted:
-    """Converts a telegram that may be of an installed track for a unit: its packet 3 becomes one that a unit reads, and all
-    other bits stay. The journal then holds what was written, and not what the track sent."""
-    buffer, adapted = ctypes.create_string_buffer(TELEGRAM_BYTES), _header.etcs_adapted()
-    _check(_called("etcs_telegram_adapt_", telegram, len(telegram), buffer, TELEGRAM_BYTES, ctypes.byref(adapted)))
-    outcome = Adaptation(adapted.outcome)
-    if outcome == Adaptation.NONE:
-        return Adapted(outcome, telegram, None, None, {})
-    if outcome != Adaptation.WRITTEN:
-        return Adapted(outcome, telegram, adapted.start, adapted.bits, {})
-    return Adapted(outcome, buffer.raw[:adapted.len], adapted.start, adapted.bits, _dropped(telegram))
-
+# ---- what a unit doesn't use of a telegram
 
 @dataclass(frozen=True)
 class UnusedPacket:

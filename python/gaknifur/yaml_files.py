@@ -180,8 +180,8 @@ class Value:
             if isinstance(node, yaml.MappingNode):
                 left += [(value, key.value in names) for key, value in node.value if isinstance(key, yaml.ScalarNode)]
 
-    def texts_but(self, name: str) -> Iterator[str]:
-        """The texts of all scalars but keys and what this name is given for, one for each node."""
+    def texts(self) -> Iterator[str]:
+        """The texts of all scalars but keys, one for each node."""
         left, seen = [self.node], set[int]()
         while left:
             node = left.pop()
@@ -193,7 +193,7 @@ class Value:
             elif isinstance(node, yaml.SequenceNode):
                 left += node.value
             else:
-                left += [value for key, value in node.value if key.value != name]
+                left += [value for _, value in node.value]
 
     def entries(self) -> dict[str, "Value"]:
         """The names of a mapping, with their values."""

@@ -30,17 +30,9 @@ expected:
 """
 RESTRICTION = "NID_BG 2; 65: NID_TSR 7, D_TSR 100, L_TSR 50, Q_FRONT 1, V_TSR 4"
 RESTRICTION_DIGITS = "90007F802001506023A0E0190019427F80"
-OF_TRACK = ("NID_BG 2; 3: D_VALIDNV 32767, NID_C 7, V_NVSHUNT 6, V_NVSTFF 8, V_NVONSIGHT 6, V_NVUNFIT 20, V_NVREL 8, D_NVROLL 2, "
-            "Q_NVSRBKTRG 1, Q_NVEMRRLS 0, V_NVALLOWOVTRP 0, V_NVSUPOVTRP 6, D_NVOVTRP 200, T_NVOVTRP 60, D_NVPOTRP 200, M_NVCONTACT 1, "
-            "T_NVCONTACT 255, M_NVDERUN 1, D_NVSTFF 32767, Q_NVDRIVER_ADHES 0")
 HEADER_BITS = "1 0010000 0 000 000 00 11111111 0000000001 00000000000010 1"
 SPEEDS_BITS = "01 111111111111111 00001 0000000111 0000110 0001000 0000110 0010100 0001000 000000000000010"
 OVERRIDE_BITS = "0000000 0000110 000000011001000 00111100"
-OF_TRACK_BITS = (f"{HEADER_BITS} 00000011 10 0000010111010 {SPEEDS_BITS} 1 0 {OVERRIDE_BITS} 000000011001000 01 11111111 1 111111111111111 0 "
-                 "11111111")
-OF_UNIT_BITS = f"{HEADER_BITS} 00000011 10 0000010011101 {SPEEDS_BITS} {OVERRIDE_BITS} 111111111111111 11111111"
-"""A packet 3 for one country, by hand: as a track of issue 2.3.0 sends it (186 bits), and as a unit reads it (157)."""
-
 
 def digits_of(bits: str) -> str:
     """Bits as digits, with zeros up to a whole byte."""
@@ -139,27 +131,6 @@ steps: [{use: both}, {drive: 150.5 m at 36.5 km/h}, {confirm: running_number}, f
         bits = f"{int(digits, 16):0{4 * len(digits)}b}"
         speed = int(bits[114:121], 2)
         return ["telegram", "packet", "end 129"] if speed <= 120 or speed == 127 else ["refused 4 OutOfRange"]
-
-    def test_a_telegram_of_an_installed_track(self) -> None:
-        header = "telegram Q_UPDOWN=1 M_VERSION=16 Q_MEDIA=0 N_PIG=0 N_TOTAL=0 M_DUP=0 M_MCOUNT=255 NID_C=1 NID_BG=2 Q_LINK=1"
-        packet = ("packet 3 Q_DIR=2 L_PACKET=157 Q_SCALE=1 D_VALIDNV=32767 N_ITER=1 NID_C=7 V_NVSHUNT=6 V_NVSTFF=8 V_NVONSIGHT=6 V_NVUNFIT=20 "
-                  "V_NVREL=8 D_NVROLL=2 V_NVALLOWOVTRP=0 V_NVSUPOVTRP=6 D_NVOVTRP=200 T_NVOVTRP=60 D_NVSTFF=32767")
-        decoded = [header, packet, "end 215"]
-        sent, handed = digits_of(OF_TRACK_BITS), digits_of(OF_UNIT_BITS)
-        by_name = f"telegrams: {{t: {{installed: '{OF_TRACK}'}}}}\nsteps: [{{telegram: t}}]"
-        with patch("gaknifur.program.adapted", return_value=handed) as adapted, patch("gaknifur.program.decode", return_value=decoded):
-            self.assertEqual(scenarios.read(self.write(by_name)).steps, [{"telegram": handed}])
-            text = f"groups: [{{at: 1 m, balises: [{{installed: {sent}}}]}}]\nsteps: [{{drive: 2 m at 3 km/h}}]"
-            self.assertEqual(scenarios.read(self.write(text)).groups[0]["balises"], [handed])
-            self.assertEqual([one.args for one in adapted.call_args_list], [(sent,), (sent,)])
-        with patch("gaknifur.program.adapted", return_value=handed), patch("gaknifur.program.decode", return_value=[header, packet[:-1], "end"]):
-            self.assertIn("1:28: etcs decode finds another telegram: packet 3", self.error(by_name))
-        with patch("gaknifur.program.adapted", side_effect=Failed("has more than one packet 3", 1)):
-            self.assertIn("1:28: the telegram has more than one packet 3", self.error(by_name))
-        self.assertIn("1:20: nothing else is allowed next to `installed`", self.error("steps: [{telegram: {installed: 90, refused: 2}}]"))
-        self.assertIn("1:20: `fields` or `installed` is missing", self.error("steps: [{telegram: {refused: 2}}]"))
-        self.assertIn("1:32: packet 3: V_NVSHUNT is missing before V_NVSTFF",
-                      self.error(f"steps: [{{telegram: {{installed: '{OF_TRACK.replace('V_NVSHUNT 6, ', '')}'}}}}]"))
 
 
 class Bounds(InFiles):
@@ -264,13 +235,6 @@ class Telegrams(unittest.TestCase):
         telegram = telegrams.telegram("NID_BG 2; 12: V_MAIN 24, L_ENDSECTION 1500; 21: D_GRADIENT 0, Q_GDIR 1, G_A 0; 27: D_STATIC 0, "
                                   "V_STATIC 24, Q_FRONT 1; 80: D_MAMODE 400, M_MAMODE 0, V_MAMODE 6, L_MAMODE 300, L_ACKMAMODE 100")
         self.assertEqual(telegram.digits, "90007F802001432024A6007FE00BB802B00D900010000DC03A400018800A10151032006025801901FE")
-
-    def test_a_track_s_packet_3(self) -> None:
-        telegram = telegrams.telegram(OF_TRACK, of_track=True)
-        self.assertEqual((telegram.digits, telegram.adapted().digits), (digits_of(OF_TRACK_BITS), digits_of(OF_UNIT_BITS)))
-        self.assertEqual(telegrams.telegram(RESTRICTION, of_track=True).adapted().digits, RESTRICTION_DIGITS)
-        with self.assertRaisesRegex(telegrams.Wrong, "^packet 3: V_NVALLOWOVTRP is missing before Q_NVSRBKTRG"):
-            telegrams.telegram(OF_TRACK)
 
     def test_lists(self) -> None:
         telegram = telegrams.telegram("NID_BG 2; 5: D_LINK 400, NID_BG 3, Q_LINKORIENTATION 1, Q_LINKREACTION 1, Q_LOCACC 5, D_LINK 10, "

@@ -255,25 +255,6 @@ class Calls(OverTheLibrary):
             with self.refused(status):
                 Unit(MemoryMedium(bytes(data))).open()
 
-    def test_a_telegram_of_an_installed_track(self) -> None:
-        """The bits are by hand (SUBSET-026, 7.4.2 and 8.4.2), and so is what is wanted."""
-        def telegram(packet: str) -> bytes:
-            bits = "1001000000000000011111111" "0000000001" "00000000000010" "1" + packet + "11111111"
-            return int(bits + "0" * (-len(bits) % 8), 2).to_bytes((len(bits) + 7) // 8, "big")
-
-        speeds = "01" "111111111111111" "00001" "0000000111" "0000110" "0001000" "0000110" "0010100" "0001000" "000000000000010"
-        override = "0000000" "0000110" "000000011001000" "00111100"
-        track = telegram("00000011" "10" "0000010111010" + speeds + "1" "0" + override + "000000011001000" "01" "11111111" "1" + "1" * 15 + "0")
-        own = telegram("00000011" "10" "0000010011101" + speeds + override + "1" * 15)
-        dropped = {"Q_NVSRBKTRG": 1, "Q_NVEMRRLS": 0, "D_NVPOTRP": 200, "M_NVCONTACT": 1, "T_NVCONTACT": 255, "M_NVDERUN": 1, "Q_NVDRIVER_ADHES": 0}
-        # The 4 bits that fill the last of the 31 bytes that were sent stay: 219 bits are 28 bytes.
-        self.assertEqual(units.adapt(track), units.Adapted(Adaptation.WRITTEN, own + b"\0", 50, 186, dropped))
-        self.assertEqual(units.adapt(own), units.Adapted(Adaptation.NONE, own, None, None, {}))
-        # Country 64 with N_ITER first (1, 64), or country 34 before N_ITER (34, 0): the same 15 bits.
-        both = telegram("00000011" "10" "0000010111010" + speeds.replace("000010000000111", "000010001000000") + "1" "0" + override
-                        + "000000011001000" "01" "11111111" "1" + "1" * 15 + "0")
-        self.assertEqual(units.adapt(both), units.Adapted(Adaptation.AMBIGUOUS, both, 50, 186, {}))
-
     def test_packets_that_are_not_used(self) -> None:
         """137, which no unit knows, 66 for the other direction, and what no mode but System Failure leaves out (by hand)."""
         bits = "1001000000000000011111111" "0000000001" "00000000000010" "1" "10001001" "10" "0000000011000" "0" "01000010" "00" "0000000011111" "00000001"

@@ -7,10 +7,6 @@
     packet BITS          the fields of the packet that these bits begin with; `-` after them leaves their last byte out
     units BITS           of each field of such a packet its name, its number and its unit
     missing AT LENGTH    a packet from that place on, of so many bits, in 8 bytes
-    adapt BITS           what becomes of a telegram of group 2 with these packets after its header: as it is, why it isn't written, or
-                         how many bytes were, and what the plain decoder (../plain/decoded.py) says about them
-    adapted COUNT SEED   so many telegrams as below, each with a packet 3: how many become what the plain program makes of them, and
-                         how many of these stay as they are then
     kind NUMBER          what is known of a packet
     random COUNT SEED    so many telegrams with packets of each layout, altered at times: how many have the packets, and the fields
                          of each with their units, that the plain program (../plain/track_packets.py) reports
@@ -24,7 +20,6 @@ from asking import HERE, main_by_words
 from test_decode import take_bytes, of_bytes
 
 sys.path.insert(0, str(HERE.parent / "plain"))
-import decoded  # noqa: E402
 import track_packets as plain  # noqa: E402
 
 FAULTS = {1: "Truncated", 2: "WrongLength", 3: "Spare", 4: "OutOfRange"}
@@ -35,7 +30,6 @@ BODIES = ["rows", "rows and bits", "bits", "kernel", "kernel or rows", "number a
 SURENESS = ["sure", "fairly sure", "name alone"]
 UNITS = ["", "scale", "5 km/h", "s", "m", "per mille", "0.5 t", "character"]
 MOST_FIELDS = 40
-HEADER = "90007F80200140"  # of group 2 in country 1
 
 
 def take_text(reply):
@@ -113,7 +107,7 @@ def take_units(reply):
 def units(words):
     data = telegram_of(words)
     place = [int("".join(words)[:8], 2), plain.HEADER_BITS, int("".join(words)[10:23], 2), 0]
-    fields, found = yield [[*of_bytes(2, data), *place], [*of_bytes(5, data), *place]]
+    fields, found = yield [[*of_bytes(2, data), *place], [*of_bytes(4, data), *place]]
     return [f"{name} {number} {unit}".rstrip() for (name, _, _, number), unit in zip(take_fields(fields)[0], take_units(found))]
 
 
@@ -121,41 +115,6 @@ def missing(words):
     [reply] = yield [[*of_bytes(2, bytes(8)), 132, int(words[0]), int(words[1]), 0]]
     fields, why, _ = take_fields(reply)
     return lines_of(fields, why)
-
-
-def take_adapted(reply):
-    outcome = reply.take()
-    if outcome == 0:
-        reply.end()
-        return "as it is", None
-    place = tuple(reply.take(2))
-    answer = {1: "written", 2: "several", 3: "neither", 4: "both"}[outcome], place
-    if outcome == 1:
-        answer = *answer, take_bytes(reply)
-    reply.end()
-    return answer
-
-
-def adapt(words):
-    data = plain.data_of(plain.bits_of(bytes.fromhex(HEADER))[:plain.HEADER_BITS] + "".join(words))
-    [reply] = yield [of_bytes(4, data)]
-    outcome, place, *written = take_adapted(reply)
-    if not written:
-        return [outcome if place is None else f"{outcome} at {place[0]} length {place[1]}"]
-    lines = decoded.answer(written[0]).splitlines()
-    return [f"{len(written[0])} bytes, for {place[1]} bits at {place[0]}", *(line for line in lines if not line.startswith("telegram "))]
-
-
-def adapted(words):
-    chance = random.Random(int(words[1]))
-    telegrams = [telegram(chance, [3]) for _ in range(int(words[0]))]
-    wanted = [plain.adapted(data) for data in telegrams]
-    written = [one[2] for one in wanted if one[0] == "written"]
-    replies = yield [of_bytes(4, data) for data in telegrams + written]
-    alike = sum(take_adapted(one) == answer for one, answer in zip(replies, wanted))
-    again = sum(take_adapted(one) == ("as it is", None) for one in replies[len(telegrams):])
-    return [f"alike: {alike} of {len(telegrams)}", f"written: {len(written)}, as they are then: {again}",
-            *(f"{why}: {sum(one[0] == why for one in wanted)}" for why in ("as it is", "several", "neither", "both"))]
 
 
 def kind(words):
@@ -197,36 +156,12 @@ def packet_bits(chance, number):
     return f"{number:08b}{chance.randint(0, 3):02b}{max(length, 0):013b}" + body
 
 
-def country(chance):
-    """A country; each second one is such that both layouts may fit."""
-    return chance.choice([chance.randint(0, 1023), 32 * chance.randint(0, 31) + chance.randint(0, 2), chance.randint(32, 127)])
-
-
-def national_bits(chance):
-    """A packet 3 by one of the two layouts that a track may have; now and then with a number that has no value, or another length."""
-    countries = [country(chance) for _ in range(chance.randint(0, 4))]
-    listed = "".join(f"{one:010b}" for one in countries)
-    counter = f"{len(countries):05b}" + listed
-    if countries and chance.random() < 0.5:
-        counter = listed[:10] + f"{len(countries) - 1:05b}" + listed[10:]
-    names = re.sub(r"\(.*?\) ", "", plain.COUNTER_FIRST).split()
-    numbers = {name: chance.randint(0, plain.GREATEST.get(name, (1 << plain.WIDTHS[name]) - 1)) for name in names}
-    if chance.random() < 0.1:
-        name = chance.choice(sorted(plain.GREATEST))
-        numbers[name] = chance.randint(plain.GREATEST[name] + 1, (1 << plain.WIDTHS[name]) - 1)
-    encoded = [f"{numbers[name]:0{plain.WIDTHS[name]}b}" for name in names]
-    body = "".join([*encoded[:2], counter, *encoded[2:]])
-    length = 23 + len(body) + (chance.randint(-20, 20) if chance.random() < 0.05 else 0)
-    return f"{3:08b}{chance.randint(0, 2):02b}{length:013b}" + body
-
-
-def telegram(chance, first=()):
+def telegram(chance):
     """Packets of random numbers after a header, and an end mark; at times bits are turned, or the end is cut off."""
     numbers = [*plain.LAYOUTS, 5, 65, 66, 0, 2, 6, 88, 180, 200]
     bits = "".join(chance.choice("01") for _ in range(plain.HEADER_BITS))
-    count = chance.randint(1, 2 if first else 4)
-    for number in chance.sample([*first, *(chance.choice(numbers) for _ in range(count))], len(first) + count):
-        bits += national_bits(chance) if first and number == 3 else packet_bits(chance, number)
+    for _ in range(chance.randint(1, 4)):
+        bits += packet_bits(chance, chance.choice(numbers))
     data = bytearray(plain.data_of(bits + "1" * 8))
     for _ in range(chance.choice([0, 0, 0, 1, 2])):
         at = chance.randrange(plain.HEADER_BITS, 8 * len(data))
@@ -243,7 +178,7 @@ def compared(words):
     places = [(data, place) for data, (packets, _) in zip(telegrams, wanted) for place in packets]
     replies = yield [*(of_bytes(1, data) for data in telegrams),
                   *([*of_bytes(2, data), number, at, length, 0] for data, (number, _, at, length) in places),
-                  *([*of_bytes(5, data), number, at, length, 0] for data, (number, _, at, length) in places)]
+                  *([*of_bytes(4, data), number, at, length, 0] for data, (number, _, at, length) in places)]
     alike = sum(take_listing(one) == (packets, end) for one, (packets, end) in zip(replies, wanted))
     of_packets, kinds, faults, alike_units = 0, set(), 0, 0
     units_of_all = replies[len(telegrams) + len(places):]
@@ -259,7 +194,7 @@ def compared(words):
             f"numbers: {len(kinds)}, with faults: {faults}"]
 
 
-ASKED = {"listing": listing, "repeated": repeated, "packet": packet, "units": units, "missing": missing, "adapt": adapt, "adapted": adapted,
+ASKED = {"listing": listing, "repeated": repeated, "packet": packet, "units": units, "missing": missing,
          "kind": kind, "random": compared}
 
 

@@ -21,7 +21,7 @@
  *     journal, next, replay, cursor BLOCK LAST INDEX
  *     cause                        why of the event that `next` read last
  *     explain                      why the newest released output is what it is
- *     decode HEX, adapt HEX, dropped INDEX HEX, unused MODE DIRECTION INDEX HEX  the calls on telegrams
+ *     decode HEX, unused MODE DIRECTION INDEX HEX  the calls on telegrams
  *     null                         each call once with each of its pointers null
  *
  * Each line is answered by its number, the status, and a digest of what was written (FNV-1a); released outputs each have a line. */
@@ -349,26 +349,13 @@ static int about_media(uint32_t *status) {
 }
 
 static int about_telegrams(uint32_t *status) {
-    static uint8_t bytes[256], out[ETCS_TELEGRAM_BYTES];
-    etcs_adapted adapted;
-    etcs_value_dropped value;
+    static uint8_t bytes[256];
     etcs_packet_unused packet;
     if (word("decode")) {
         const size_t count = bytes_of_line(bytes, sizeof bytes);
         const uint32_t packets = etcs_packet_count(bytes, count);
         *status = etcs_decode(bytes, count);
         add_number(packets, sizeof packets);
-    } else if (word("adapt")) {
-        *status = etcs_telegram_adapt(bytes, bytes_of_line(bytes, sizeof bytes), out, sizeof out, &adapted);
-        if (*status == ETCS_UNIT_OK) {
-            add_etcs_adapted(&adapted);
-            add(out, adapted.len);
-        }
-    } else if (word("dropped")) {
-        const uint32_t index = (uint32_t)number();
-        *status = etcs_telegram_dropped(bytes, bytes_of_line(bytes, sizeof bytes), index, &value);
-        if (*status == ETCS_UNIT_OK)
-            add_etcs_value_dropped(&value);
     } else if (word("unused")) {
         const uint32_t mode = (uint32_t)number(), direction = (uint32_t)number(), index = (uint32_t)number();
         *status = etcs_telegram_unused(bytes, bytes_of_line(bytes, sizeof bytes), mode, direction, index, &packet);

@@ -6,7 +6,7 @@ import fs from 'node:fs';
 const { instance } = await WebAssembly.instantiate(fs.readFileSync(process.argv[2]), {});
 const x = instance.exports;
 const SECTOR = 512, SECTORS = 1 + 6 * 64, MOST = SECTOR * SECTORS, OUTPUTS = 8, REQUEST = 8192, OK = 0, FAILED = 21, WRITE = 1n, READ = 3n, NO_SUCH_REQUEST = 249;
-const SIZE = { request: 24, output: 16, state: 80, facts: 32, slot: 32, start: 16, block: 208, record: 160, journal: 24, replay: 720, why: 160, train: 20, explained: 144, driver: 208, adapted: 16, dropped: 16, unused: 24 };
+const SIZE = { request: 24, output: 16, state: 80, facts: 32, slot: 32, start: 16, block: 208, record: 160, journal: 24, replay: 720, why: 160, train: 20, explained: 144, driver: 208, unused: 24 };
 
 const bytesAt = (at, length) => new Uint8Array(x.memory.buffer, Number(at), Number(length));
 const take = size => {
@@ -204,11 +204,6 @@ const CALLS = {
     },
     explain: () => digested(x.etcs_unit_why(unit(), result), result, SIZE.explained),
     keys: () => digested(x.etcs_unit_driver(unit(), result), result, SIZE.driver),
-    adapt: () => {
-        const status = x.etcs_telegram_adapt(bytes, hex(256), some, 104n, result);
-        return status === OK ? (add(result, SIZE.adapted), digested(status, some, new DataView(x.memory.buffer).getUint32(Number(result) + 4, true))) : status;
-    },
-    dropped: () => { const index = small(); return digested(x.etcs_telegram_dropped(bytes, hex(256), index, result), result, SIZE.dropped); },
     unused: () => {
         const mode = small(), direction = small(), index = small();
         return digested(x.etcs_telegram_unused(bytes, hex(256), mode, direction, index, result), result, SIZE.unused);

@@ -118,7 +118,7 @@ def script(lives, calls, telegrams, seed=2026):
     lines += ["slots 4", *(call(r) for _ in range(calls)), "unit 0", "close", "unit 1", "close", "null"]
     for _ in range(telegrams):
         data = r.choice((headed, mutated, installed))(r)[:256].hex()
-        lines += [f"decode {data}", f"adapt {data}", f"dropped {r.randrange(8)} {data}", f"unused {r.choice((0, 1, 2, 3, 4, 5, 6, 7, 8, 9))} {r.choice((0, 1, 2, 2, 3))} {r.randrange(4)} {data}"]
+        lines += [f"decode {data}", f"unused {r.choice((0, 1, 2, 3, 4, 5, 6, 7, 8, 9))} {r.choice((0, 1, 2, 2, 3))} {r.randrange(4)} {data}"]
     return lines
 
 

@@ -9,8 +9,6 @@ void drops(etcs_unit *unit, etcs_file *file, etcs_unit_output *outputs, uint8_t 
 
 void drops(etcs_unit *unit, etcs_file *file, etcs_unit_output *outputs, uint8_t *bytes, uint64_t *number, uint32_t *count) {
     static etcs_unit_request_info request;
-    static etcs_adapted adapted;
-    static etcs_value_dropped value;
     static etcs_packet_unused packet;
     static const etcs_train_data train = {20000, 160000, 70, 0, 15};
     static const etcs_situation situation = {ETCS_FULL_SUPERVISION, ETCS_DIRECTION_NOMINAL, 0};
@@ -40,8 +38,6 @@ void drops(etcs_unit *unit, etcs_file *file, etcs_unit_output *outputs, uint8_t 
     etcs_unit_release(unit, outputs, 8, count);
     etcs_unit_command(outputs, *count, outputs);
     etcs_unit_format_request(4, 0, &request, bytes, 512);
-    etcs_telegram_adapt(bytes, 8, bytes, 104, &adapted);
-    etcs_telegram_dropped(bytes, 8, 0, &value);
     etcs_telegram_unused(bytes, 8, 0, 0, 0, &packet);
     etcs_file_open(file, "image", unit, ETCS_COLD_UNKNOWN);
     etcs_file_prepare(file, unit);

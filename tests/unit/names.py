@@ -44,7 +44,7 @@ ENUMS = {
     "unused_reason": ({"IN_MODE": "not_in_mode"}, None, ()),
     "direction": ({}, ("Balise group", "direction"), ("not_known",)),
     "group_outcome": ({}, ("Balise group", "outcome"), ()), "reaction": ({}, None, ()), "telegram_outcome": ({}, None, ()), "refusal": ({}, None, ()),
-    "acknowledgement": ({}, None, ()), "action": ({}, None, ()), "status_kind": ({}, None, ()), "request_kind": ({}, None, ()), "adaptation": ({}, None, ()), "proof": ({}, None, ()),
+    "acknowledgement": ({}, None, ()), "action": ({}, None, ()), "status_kind": ({}, None, ()), "request_kind": ({}, None, ()), "proof": ({}, None, ()),
     "guard_policy": ({}, None, ()), "demanded": ({}, None, ()), "finding": ({}, None, ()), "sureness": ({}, None, ()),
 }
 FIELDS = ("record_field", "kept_field")
@@ -66,7 +66,7 @@ def short(name, enum):
 
 def main(words):
     rows, library, page = Compared(), ctypes.CDLL(words[0]), (TOP / "docs/reference/json.md").read_text()
-    tried = {"status", "dropped"}
+    tried = {"status"}
 
     def name_of(enum, number):
         call = library[f"etcs_{enum}_name"]
@@ -84,10 +84,9 @@ def main(words):
         tried.add(enum)
     both = [{name_of(enum, n) for n in range(1, 12)} - {"unknown"} for enum in FIELDS]
     rows.same("fields in docs/reference/json.md", both[0] | both[1], words_of(page, "Replay", "field"))
-    for enum, names in (("status", _header.Status), ("dropped", _header.DroppedVariable)):
-        for name, member in names.__members__.items():
-            rows.same(f"{enum} {member.value}", name_of(enum, member.value), name)
-        rows.same(f"other numbers than those of {enum}", {name_of(enum, n) for n in range(300) if n not in {member.value for member in names}}, {"unknown"})
+    for name, member in _header.Status.__members__.items():
+        rows.same(f"status {member.value}", name_of("status", member.value), name)
+    rows.same("other numbers than those of status", {name_of("status", n) for n in range(300) if n not in {member.value for member in _header.Status}}, {"unknown"})
     rows.same("calls that name a number", {f"etcs_{enum}_name" for enum in tried}, {word for word in words[1:] if word.endswith("_name")})
     rows.unless(len(tried) >= LEAST, f"only {len(tried)} enums have names")
     return rows.end(f"names of numbers: {len(tried)} enums, {rows.count} comparisons")

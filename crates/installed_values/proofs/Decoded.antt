@@ -20,7 +20,7 @@ use Rattle.track_packets.specs.declared.listing.Listing.{Listing}
 use Rattle.track_packets.specs.declared.listing.PacketPlace.{PacketPlace}
 use Rattle.track_packets.proofs.Steps.{Marks, packet_listed, mark_listed}
 use Rattle.installed_values.specs.Staying.{moved, IsThere, OthersAreThere}
-use Rattle.installed_values.proofs.Heads.{headed}
+use Rattle.track_packets.proofs.Heads.{headed}
 use Rattle.installed_values.proofs.Walks.{moved_here}
 use Rattle.installed_values.proofs.Written.{IsFor, Kept, all_kept, parts, listing_long, others_stay}
 

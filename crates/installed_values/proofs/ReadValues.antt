@@ -23,7 +23,7 @@ use Rattle.installed_values.specs.Adapting.{countries_at}
 use Rattle.installed_values.specs.Keeping.{bits_of_row, total_bits}
 use Rattle.installed_values.specs.Reading.{values_of, ReadsValues}
 use Rattle.installed_values.specs.Staying.{values_by}
-use Rattle.installed_values.proofs.Heads.{headed}
+use Rattle.track_packets.proofs.Heads.{headed}
 use Rattle.installed_values.proofs.Values.{own, own_total, values_stay}
 use Rattle.installed_values.proofs.Written.{IsFor}
 

@@ -20,8 +20,7 @@ use Rattle.track_packets.specs.Listing.{number_at, place_at, in_front, listed, l
 use Rattle.track_packets.specs.declared.listing.Listing.{Listing}
 use Rattle.track_packets.specs.declared.listing.PacketPlace.{PacketPlace}
 use Rattle.track_packets.proofs.Steps.{Marks, packet_listed, mark_listed}
-use Rattle.installed_values.proofs.Heads.{headed}
-use Rattle.installed_values.proofs.Written.{listing_long}
+use Rattle.track_packets.proofs.Heads.{headed, listing_long}
 use Rattle.track_guard.specs.Demands.{packets_found}
 use Rattle.track_guard.specs.Findings.{field_at, has_known_packets}
 use Rattle.track_guard.specs.Laws.{AllAreLookedAt, IsPlaceOf}

@@ -1,4 +1,5 @@
 pub mod Bounded
+pub mod Heads
 pub mod Listings
 pub mod Rows
 pub mod Steps

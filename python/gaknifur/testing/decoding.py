@@ -17,7 +17,6 @@ from . import telegrams
 
 LEAST, MOST, MORE_SLOTS = 4, 2_000, 8
 """The least and the greatest number of telegrams that are decoded together, and the slots of their journal that they don't need."""
-OF_TRACK = "installed"
 
 
 def decode_ahead(found: Iterable[Value]) -> None:
@@ -33,7 +32,7 @@ def decode_ahead(found: Iterable[Value]) -> None:
 def written_in(found: Iterable[Value]) -> Iterator[str]:
     """The texts that write telegrams for a unit."""
     for at in found:
-        for text in at.texts_but(OF_TRACK):
+        for text in at.texts():
             if "NID_BG" in text:
                 yield text
 

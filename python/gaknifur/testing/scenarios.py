@@ -145,38 +145,9 @@ def digits_of(at: Value, shared: Shared) -> str:
                 raise at.fault("NID_BG is missing: a telegram begins with its header, such as \"NID_BG 2; 12: V_MAIN 24, L_ENDSECTION 300\"")
             raise at.fault(f"no telegram is called \"{shortened(text)}\"; {guess(text[:MOST_SHOWN], shared.telegrams)}")
         return written(text, at, None)
-    members = at.members((), ("fields", "refused", "installed"))
-    if "installed" in members:
-        return of_track(at, members)
-    if "fields" not in members:
-        raise at.fault("`fields` or `installed` is missing")
+    members = at.members(("fields",), ("refused",))
     refused = members["refused"].text() if "refused" in members else None
     return written(members["fields"].text(), members["fields"], refused)
-
-
-def of_track(at: Value, members: dict[str, Value]) -> str:
-    """The digits of the telegram that a unit gets in place of one of an installed track, which is given by its variables or in hex."""
-    if len(members) > 1:
-        raise at.fault("nothing else is allowed next to `installed`")
-    installed = members["installed"]
-    text = installed.text()
-    if is_hex(text):
-        return adapted(checked_size(text.upper(), installed), installed)
-    try:
-        sent = telegrams.telegram(text, of_track=True)
-        digits = adapted(sent.digits, installed)
-    except telegrams.Wrong as wrong:
-        raise installed.fault(str(wrong)) from wrong
-    compare(sent.adapted(), program.decode(digits), installed)
-    return digits
-
-
-def adapted(digits: str, at: Value) -> str:
-    """The telegram that `etcs_lab telegram --installed` converts a telegram to."""
-    try:
-        return program.adapted(digits)
-    except program.Failed as failed:
-        raise at.fault(f"the telegram {failed}") from failed
 
 
 def checked_size(digits: str, at: Value) -> str:

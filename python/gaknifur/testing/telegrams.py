@@ -130,9 +130,6 @@ def read_layout(text: str) -> tuple[Part, ...]:
 
 SKIPPED = {number: read_layout(text) for number, text in _track_packets.LAYOUTS.items() if number not in LAYOUTS}
 """The layouts of packets that the kernel skips."""
-NATIONAL_VALUES = 3
-OF_TRACK = SKIPPED | {NATIONAL_VALUES: read_layout(_track_packets.LAYOUTS[NATIONAL_VALUES])}
-"""The layouts on a track of issue 2.3.0, whose packet 3 has another layout than the one that a unit reads."""
 
 
 def packets_in(bits: str) -> Iterator[tuple[int, str]]:
@@ -226,9 +223,9 @@ class Writer:
             self.written.insert(at, (part.counter, written))
 
 
-def packet_pairs(number: int, pairs: Pairs, of_track: bool = False) -> Pairs:
-    """The variables of a packet in their order, with its head; `of_track`: as a track of issue 2.3.0 sends it."""
-    skipped = (OF_TRACK if of_track else SKIPPED).get(number)
+def packet_pairs(number: int, pairs: Pairs) -> Pairs:
+    """The variables of a packet in their order, with its head."""
+    skipped = SKIPPED.get(number)
     layout = LAYOUTS.get(number) if skipped is None else skipped
     head = dict(pair for pair in pairs if pair[0] in HEAD)
     body = Writer(number, [pair for pair in pairs if pair[0] not in HEAD])
@@ -280,11 +277,9 @@ def all_names(layout: Sequence[Part]) -> set[str]:
     return found
 
 
-def names_of(packet: int, of_track: bool) -> set[str]:
+def names_of(packet: int) -> set[str]:
     """The variables of a packet; all that there are if it has no layout."""
-    layout = LAYOUTS.get(packet)
-    if layout is None or of_track:
-        layout = OF_TRACK.get(packet, layout)
+    layout = LAYOUTS.get(packet, SKIPPED.get(packet))
     return set(WIDTH) if layout is None else {*HEAD, *all_names(layout)}
 
 
@@ -317,26 +312,9 @@ class Telegram:
             raise Wrong(f"a telegram has at most {MOST_BYTES} bytes, and this one has {len(bits) // 8}")
         return f"{int(bits, 2):0{len(bits) // 4}X}"
 
-    def adapted(self) -> "Telegram":
-        """The telegram for a unit: without the variables of a track's packet 3 that a unit's packet 3 doesn't have."""
-        return Telegram(self.header, [unit_pairs(packet) if packet[0][1] == NATIONAL_VALUES else packet for packet in self.packets])
-
     def lines(self) -> list[str]:
         """The telegram as `etcs decode` prints it, without the last line, which counts its bits."""
         return [" ".join(["telegram", *map(shown, self.header)]), *map(packet_line, self.packets)]
-
-
-def names_in(layout: Sequence[Part]) -> set[str]:
-    """The variables of a layout that aren't in a list."""
-    return {part for part in layout if isinstance(part, str)}
-
-
-def unit_pairs(packet: Pairs) -> Pairs:
-    """A packet 3 without the variables that only a track's packet 3 has."""
-    gone = names_in(OF_TRACK[NATIONAL_VALUES]) - names_in(LAYOUTS[NATIONAL_VALUES]) - set(HEAD)
-    kept = [(name, number) for name, number in packet if name not in gone]
-    less = sum(width_of(name) for name, _ in packet) - sum(width_of(name) for name, _ in kept)
-    return [(name, number - less if name == "L_PACKET" else number) for name, number in kept]
 
 
 def shown(pair: tuple[str, int]) -> str:
@@ -352,8 +330,8 @@ def packet_line(packet: Pairs) -> str:
     return " ".join([f"packet {number}", *map(shown, packet[1:3]), "skipped"])
 
 
-def telegram(text: str, of_track: bool = False) -> Telegram:
-    """The telegram of a text; `of_track`: as a track of issue 2.3.0 sends it."""
+def telegram(text: str) -> Telegram:
+    """The telegram of a text."""
     if len(text) > MOST_TEXT:
         raise Wrong(f"a telegram is written in at most {MOST_TEXT:,} characters, and this has {len(text):,}")
     first, *rest = text.split(";")
@@ -373,5 +351,5 @@ def telegram(text: str, of_track: bool = False) -> Telegram:
         if not re.fullmatch("[0-9]{1,3}", number_text.strip()) or int(number_text) > END_MARK:
             raise Wrong(f"\"{shortened(one.strip())}\" begins with no number of a packet")
         number = int(number_text)
-        packets.append(packet_pairs(number, pairs_of(body, names_of(number, of_track), f"packet {number}"), of_track))
+        packets.append(packet_pairs(number, pairs_of(body, names_of(number), f"packet {number}")))
     return Telegram([(name, number or 0) for name, number in header.items()], packets)

@@ -289,29 +289,6 @@ class TelegramOutcome(enum.IntEnum):
     REFUSED = 4
 
 
-class Adaptation(enum.IntEnum):
-    """What came of a telegram that may be of an installed track (etcs_telegram_adapt)."""
-
-    NONE = 0
-    WRITTEN = 1
-    SEVERAL = 2
-    NO_LAYOUT = 3
-    AMBIGUOUS = 4
-
-
-class DroppedVariable(enum.IntEnum):
-    """The variables of a packet 3 as a track of issue 2.3.0 sends it that a unit has no place for, in the order of the
-    packet."""
-
-    Q_NVSRBKTRG = 0
-    Q_NVEMRRLS = 1
-    D_NVPOTRP = 2
-    M_NVCONTACT = 3
-    T_NVCONTACT = 4
-    M_NVDERUN = 5
-    Q_NVDRIVER_ADHES = 6
-
-
 class Direction(enum.IntEnum):
     """The direction in which a group is passed."""
 
@@ -526,14 +503,6 @@ class etcs_unit_preview_info(Structure):
                 ("reserved", c_uint8)]
 
 
-class etcs_adapted(Structure):
-    _fields_ = [("outcome", c_uint32), ("len", c_uint32), ("start", c_uint32), ("bits", c_uint32)]
-
-
-class etcs_value_dropped(Structure):
-    _fields_ = [("number", c_uint64), ("variable", c_uint32), ("bits", c_uint32)]
-
-
 class etcs_packet_unused(Structure):
     _fields_ = [("start", c_uint64), ("bits", c_uint64), ("number", c_uint32), ("why", c_uint32)]
 
@@ -623,8 +592,6 @@ CALLS: dict[str, tuple[object, ...]] = {
     "etcs_unit_preview_odometer_": (POINTER(etcs_unit), c_int64, c_uint32, POINTER(etcs_unit_preview_info)),
     "etcs_unit_close_": (POINTER(etcs_unit),),
     "etcs_unit_format_request_": (c_uint32, c_uint32, POINTER(etcs_unit_request_info), c_char_p, c_uint64),
-    "etcs_telegram_adapt_": (c_char_p, c_uint64, c_char_p, c_uint64, POINTER(etcs_adapted)),
-    "etcs_telegram_dropped_": (c_char_p, c_uint64, c_uint32, POINTER(etcs_value_dropped)),
     "etcs_telegram_unused_": (c_char_p, c_uint64, c_uint32, c_uint32, c_uint32, POINTER(etcs_packet_unused)),
     "etcs_abi": (),
     "etcs_build_proof": (),

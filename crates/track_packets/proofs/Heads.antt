@@ -1,9 +1,9 @@
 -- The head of a packet that is spelled: what the listing of packets goes by. Widths are bits.
-use Rattle.std.proofs.Common.{◌≡◌, ℕ, ◌+◌, ◌*◌, ◌^◌, ◌<◌, ◌≤◌, nat_eq, Bool, true, false, List, [], ◌∷◌, ◌++◌, Option, Some, None, length, length-append, take, drop, refl, sym, ap, ◌∙◌, arith, append_assoc}
+use Rattle.std.proofs.Common.{◌≡◌, ℕ, ◌+◌, ◌*◌, ◌^◌, ◌<◌, ◌≤◌, nat_eq, Bool, true, false, if◌then◌else◌, List, [], ◌∷◌, ◌++◌, Option, Some, None, length, length-append, take, drop, refl, sym, ap, ◌∙◌, arith, append_assoc}
 use Rattle.std.specs.Option.{option_map_or}
-use Rattle.std.proofs.lemmas.Bool.{eqb-false}
+use Rattle.std.proofs.lemmas.Bool.{eqb-false, le-ltb}
 use Rattle.std.proofs.lemmas.List.{append-nil, take_at, drop_at, take_all}
-use Rattle.bits.specs.Bits.{number, number_bits}
+use Rattle.bits.specs.Bits.{bits_of, number, number_bits}
 use Rattle.bits.specs.Layout.{Layout, done, unless, field, run, choice, kind, part, inner, measured, more, reported_as, then_, Begins, Spells}
 use Rattle.bits.specs.Writing.{value, each_taken, with_bits, appended}
 use Rattle.bits.proofs.Numbers.{length-number_bits, number-of_bits, number-append}
@@ -14,7 +14,9 @@ use Rattle.packets.specs.Packets.{packet, packet_of, packet_taken, length_of, nu
 use Rattle.packets.specs.declared.packet.Packet.{Packet}
 use Rattle.packets.specs.declared.packet.Packet.TheVariants as packets
 use Rattle.packets.proofs.AnyPacket.{spelled-packet, length_of-least}
-use Rattle.track_packets.specs.Listing.{number_at, head_at, length_at}
+use Rattle.track_packets.specs.Listing.{number_at, head_at, length_at, listed, listing_of, ended}
+use Rattle.track_packets.specs.declared.listing.Listing.{Listing}
+use Rattle.track_packets.specs.declared.listing.ListingEnd.TheVariants.{CutOff}
 use Rattle.track_packets.proofs.Steps.{Stands, head_front}
 
 -- ---- what is appended comes after what was there
@@ -152,3 +154,11 @@ headed p bits rest b =
       };
       length_is = is;
     }
+
+-- ---- the listing of a telegram whose header is whole
+
+abbrev listing_by : Bool → Listing → Listing
+listing_by b l = if b then ended (CutOff 0) else l
+
+pub listing_long : (bytes : List ℕ) → 50 ≤ length (bits_of bytes) → listing_of bytes ≡ listed 34 50 (drop 50 (bits_of bytes))
+listing_long bytes le = ap (λ b. listing_by b (listed 34 50 (drop 50 (bits_of bytes)))) (le-ltb (length (bits_of bytes)) 50 le)

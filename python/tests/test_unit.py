@@ -19,7 +19,7 @@ from gaknifur.lives import BrakeCause, Datum, KeptField, LimitCause, RecordField
 from gaknifur.unit import (Acknowledgement, Action, Brake, ClosedGroup, Cold, FileMedium, GroupOutcome, Indication, Kept, Kind, Level,
                            MemoryMedium, Mode, Output, Preview, Reaction, Record, Refusal, Refused, SlotState, Status, TelegramOutcome,
                            TrainData, Unit, UnitDriver, UnitWhy, Waiting)
-from gaknifur.units._header import Adaptation, Direction, DroppedVariable, Fault, Proof, RequestKind, Source, StatusKind, UnusedReason
+from gaknifur.units._header import Direction, Fault, Proof, RequestKind, Source, StatusKind, UnusedReason
 
 INCLUDE = Path(__file__).resolve().parents[2] / "include"
 HEADER = INCLUDE / "etcs_unit.h"
@@ -34,7 +34,7 @@ class Names(unittest.TestCase):
     def test_enums(self) -> None:
         enums: list[type[enum.IntEnum | enum.IntFlag]] = [
             Fault, Proof, Status, StatusKind, Source, Cold, Action, Mode, Level, Brake, Indication, RequestKind, BrakeCause, LimitCause,
-            Acknowledgement, Datum, Refusal, GroupOutcome, Reaction, TelegramOutcome, Adaptation, DroppedVariable, Direction, UnusedReason,
+            Acknowledgement, Datum, Refusal, GroupOutcome, Reaction, TelegramOutcome, Direction, UnusedReason,
             SlotState, Kind, Verdict, RecordField, KeptField, TripCause]
         text = "".join((INCLUDE / name).read_text() for name in ("etcs.h", "etcs_unit.h", "etcs_image.h"))
         bodies = re.findall(r"^enum \w+ \{(.*?)\};", text, re.DOTALL | re.MULTILINE)

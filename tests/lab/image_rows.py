@@ -78,7 +78,7 @@ Options:
         (["evnts", "image"], ("'evnts'", "a similar subcommand exists: 'events'", "Usage: etcs_lab <COMMAND>")),
         (["examine", "--jsn", "image"], ("'--jsn'", "a similar argument exists: '--json'", "Usage: etcs_lab examine")),
         (["examine", "--slots", "1", "image"], ("'1'", "'--slots <N>'", "1 is not in 2..=1048576")),
-        (["telegram"], ("FILE", "'--schema'", "'--installed <HEX>'")),
+        (["telegram"], ("FILE", "'--schema'")),
     ):
         printed, said, status = run(program, words)
         compared.same(f"words {words}", (printed, [one for one in named if one not in said], status), ("", [], 2))

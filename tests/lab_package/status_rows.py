@@ -71,7 +71,6 @@ ROWS = """\
 1 etcs decode zz
 1 etcs journal empty
 1 etcs_lab check empty
-1 etcs_lab telegram --installed=zz
 1 lab table empty out.csv
 1 lab build bad.yaml
 1 lab lint bad.yaml

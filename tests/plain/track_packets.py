@@ -1,7 +1,6 @@
 #!/usr/bin/env python3
 """The packets that a track of issue 2.3.0 sends, as `track_packets` lists them (SUBSET-026, 7.4.2; docs/reference/packets.md): their places in
-a telegram, by L_PACKET only, and the fields of each; and a telegram with its packet 3 in this project's order, as `installed_values`
-writes it.
+a telegram, by L_PACKET only, and the fields of each.
 
 A layout is a text of names. `(N_ITER ..)` has a counter and the fields that repeat; `[Q_NEWCOUNTRY=1 ..]` the fields that follow where
 that field has this number."""

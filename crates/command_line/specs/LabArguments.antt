@@ -18,9 +18,6 @@ slots = record (new_rule (codes "slots")) { long = Some (codes "slots"); value_n
 abbrev pub event : Rule
 event = record (new_rule (codes "EVENT")) { parser = Some (vp.Unsigned 0 most_u64) }
 
-abbrev pub installed : Rule
-installed = record (new_rule (codes "installed")) { long = Some (codes "installed"); value_names = 1 }
-
 abbrev pub file : Rule
 file = new_rule (codes "FILE")
 
@@ -48,7 +45,7 @@ abbrev pub value_app : Text → Text → App
 value_app name value = with_rule (with_rule (new_app name) (flag (codes "json"))) (required value)
 
 abbrev pub telegram_app : App
-telegram_app = with_rule (with_rule (with_rule (new_app (codes "telegram")) (flag (codes "schema"))) installed) file
+telegram_app = with_rule (with_rule (new_app (codes "telegram")) (flag (codes "schema"))) file
 
 abbrev pub run_app : App
 run_app = with_rule (new_app (codes "run")) (required (codes "SCENARIO"))
@@ -90,7 +87,6 @@ pub data LabValues : Type 0 where
   decode : Text → Bool → LabValues
   packets : Text → Bool → LabValues
   telegram : Text → LabValues
-  adapted : Text → LabValues
   schema : LabValues
   lint : Text → Bool → LabValues
   run : Text → LabValues
@@ -108,7 +104,6 @@ values_of (command.Why image event known json) = why (image_values_of image) eve
 values_of (command.Decode hex json) = decode hex.now json
 values_of (command.Packets hex json) = packets hex.now json
 values_of (command.Telegram file) = telegram file.now
-values_of (command.Installed hex) = adapted hex.now
 values_of command.Schema = schema
 values_of (command.Lint scenario json) = lint scenario.now json
 values_of (command.Run scenario) = run scenario.now
@@ -129,15 +124,14 @@ abbrev pub why_values : List Row → Option LabValues
 why_values rows = option_and_then (λ image. option_map (λ event. why image event (is_set (codes "known") rows) (is_set (codes "json") rows)) (optional_number most_u64 (first_of (codes "EVENT") rows)))
     (image_values rows)
 
--- exactly one of the three is given
-abbrev pub telegram_of : Option Text → Option Text → Bool → Option LabValues
-telegram_of (Some file) None false = Some (telegram file)
-telegram_of None (Some hex) false = Some (adapted hex)
-telegram_of None None true = Some schema
-telegram_of _ _ _ = None
+-- exactly one of the two is given
+abbrev pub telegram_of : Option Text → Bool → Option LabValues
+telegram_of (Some file) false = Some (telegram file)
+telegram_of None true = Some schema
+telegram_of _ _ = None
 
 abbrev pub telegram_values : List Row → Option LabValues
-telegram_values rows = telegram_of (first_of (codes "FILE") rows) (first_of (codes "installed") rows) (is_set (codes "schema") rows)
+telegram_values rows = telegram_of (first_of (codes "FILE") rows) (is_set (codes "schema") rows)
 
 -- a command with one value, and --json
 abbrev pub value_values : (Text → Bool → LabValues) → Text → List Row → Option LabValues

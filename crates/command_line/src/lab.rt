@@ -66,10 +66,6 @@ pub enum LabCommand<'a> {
     Telegram {
         file: &'a str,
     },
-    /// Adapt a telegram of an installed track.
-    Installed {
-        hex: &'a str,
-    },
     /// Print the JSON Schema of a telegram.
     Schema,
     /// List the findings in a scenario.
@@ -108,9 +104,9 @@ pub enum LabArgsError {
     Refused(String),
 }
 
-// What `telegram` answers where it is given none of its three inputs, or more than one.
+// What `telegram` answers where it is given neither of its two inputs, or both.
 const NOT_ONE_TELEGRAM: &str = "\
-error: 'telegram' needs exactly one of FILE, '--schema' and '--installed <HEX>'
+error: 'telegram' needs either FILE or '--schema'
 
 Usage: etcs_lab telegram [OPTIONS] [FILE]
 
@@ -195,17 +191,15 @@ fn packets_command<'a>(matches: &ArgMatches<'a>) -> Option<LabCommand<'a>>
     Some(LabCommand::Packets { hex, is_json })
 }
 
-// Exactly one of the three is given.
+// Exactly one of the two is given.
 fn telegram_command<'a>(matches: &ArgMatches<'a>) -> Option<LabCommand<'a>>
     ensures { option_map values_of result ≡ telegram_values (rows_of (found_of matches.now)) }
 {
     let file = value_of(matches, "FILE");
-    let hex = value_of(matches, "installed");
     let schema = is_set(matches, "schema");
-    match (file, hex, schema) {
-        (Some(file), None, false) => Some(LabCommand::Telegram { file }),
-        (None, Some(hex), false) => Some(LabCommand::Installed { hex }),
-        (None, None, true) => Some(LabCommand::Schema),
+    match (file, schema) {
+        (Some(file), false) => Some(LabCommand::Telegram { file }),
+        (None, true) => Some(LabCommand::Schema),
         _ => None,
     }
 }

@@ -97,15 +97,6 @@ fn schema_arg<'a>(alloc: Global) -> Arg<'a>
         .help("Print the JSON Schema of a telegram")
 }
 
-fn installed_arg<'a>(alloc: Global) -> Arg<'a>
-    ensures { IsArg spec.installed result }
-{
-    Arg::new(alloc, "installed")
-        .long("installed")
-        .value_name("HEX")
-        .help("Print what a unit must be handed in place of this telegram of an installed track")
-}
-
 fn file_arg<'a>(alloc: Global) -> Arg<'a>
     ensures { IsArg spec.file result }
 {
@@ -242,8 +233,7 @@ fn telegram_app<'a>(alloc: Global) -> Result<Command<'a>, AllocError>
         "Encode a telegram from JSON into hexadecimal digits",
     );
     let first = with_arg(Ok(new), schema_arg(alloc));
-    let second = with_arg(first, installed_arg(alloc));
-    with_arg(second, file_arg(alloc))
+    with_arg(first, file_arg(alloc))
 }
 
 fn lint_app<'a>(alloc: Global) -> Result<Command<'a>, AllocError>

@@ -6,4 +6,4 @@ mod packet_names;
 mod telegrams;
 
 pub use packet_names::packets_reported;
-pub use telegrams::{adapted_reported, decode_reported, telegram_reported};
+pub use telegrams::{decode_reported, telegram_reported};

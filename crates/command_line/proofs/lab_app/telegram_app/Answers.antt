@@ -9,5 +9,4 @@ returns c =
     let named : IsApp (new_app (codes "telegram")) c.new.result = record { is = c.new.ensures.app; local = c.new.ensures.local } in
     let new = with_setting (λ (a : App). a) _ _ c.about-new.result _ c.about-new.ensures refl refl named in
     let first = c.with_arg-first.ensures _ _ new c.schema_arg.ensures in
-    let second = c.with_arg-second.ensures _ _ first c.installed_arg.ensures in
-    c.with_arg.ensures _ _ second c.file_arg.ensures
+    c.with_arg.ensures _ _ first c.file_arg.ensures

@@ -822,12 +822,6 @@ static inline const char *etcs_fault_name(uint32_t number) {
     return etcs_name_(names, (uint32_t)(sizeof names / sizeof names[0]), number);
 }
 
-/** Returns the name of a number of enum etcs_adaptation; "unknown" for other numbers. */
-static inline const char *etcs_adaptation_name(uint32_t number) {
-    static const char *const names[] = {"none", "written", "several", "no_layout", "ambiguous"};
-    return etcs_name_(names, (uint32_t)(sizeof names / sizeof names[0]), number);
-}
-
 /** Returns the name of a number of enum etcs_direction; "unknown" for other numbers. */
 static inline const char *etcs_direction_name(uint32_t number) {
     static const char *const names[] = {"reverse", "nominal", "not_known"};

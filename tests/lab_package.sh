@@ -1,7 +1,7 @@
 #!/bin/bash
 # Tests the package python/gaknifur and its script ./lab on the programs that the full check built: types, the package's own tests,
 # exit statuses, the page of all commands, tables and database compared with plain readers, reports, sealed and redacted copies, releases,
-# differences of images, and cases of journals.
+# and cases of journals.
 #
 #     tests/lab_package.sh [ETCS_LAB ETCS [IMAGES [SEED]]]    on other programs, with more or other images
 . "$(dirname "$(readlink -f -- "$0")")/both_programs" || exit 1
@@ -21,6 +21,5 @@ status=0
 "$python" tests/lab_package/status_rows.py "$etcs" "$lab" || status=1
 tools/commands --check "$lab" || status=1
 "$python" tests/lab_package/release_rows.py || status=1
-"$python" tests/lab_package/diff_rows.py "$lab" || status=1
 "$python" tests/lab_package/campaign_rows.py "$etcs" "$lab" || status=1
 exit $status

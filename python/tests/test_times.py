@@ -226,15 +226,6 @@ class Whose(Room):
             else:
                 times.check_marks(image, marks, "Left.")
 
-    def test_images_with_their_marks(self) -> None:
-        image, other = self.room / "image", self.room / "other"
-        identity.path_of(image).write_text("unit: 17")
-        (self.room / "image.times").write_text("no marks")
-        (self.room / "other.times").write_text(LINES + "unit: 18\n")
-        self.assertEqual(list(times.known_with_marks([image, other])), [(image, Identity("17")), (self.room / "other.times", Identity("18"))])
-        with self.assertRaisesRegex(Failed, "other.times: is of unit 18, and .*image of unit 17; --strangers goes on. Left."):
-            identity.check(times.known_with_marks([image, other]), "Left.")
-
 
 class Outputs(Room):
     """What outputs report."""

@@ -62,7 +62,6 @@ ROWS = """\
 0 lab verify sealed
 0 lab redact sealed copy
 0 lab verify copy
-0 lab diff image image
 0 lab test good
 0 lab case image --event 8
 0 lab why image 6
@@ -127,10 +126,8 @@ ROWS = """\
 4 lab case altered --event 5
 4 lab why image
 4 lab why image 99
-4 lab diff altered altered
 4 lab verify broken
 4 tools/verify sealed
-4 lab diff image altered
 4 lab test fails --junitxml=fails.xml
 4 lab results fails.xml results.html
 4 lab sweep sweep.yaml

@@ -121,7 +121,7 @@ def honest(rows, room):
 
 
 COMMANDS = ("check image", "table image out.csv", "timeline image out.jsonl", "database image out.db", "why image", "capture image out.pcap",
-            "diff image image", "join joined image", "report image out.html", "seal image bag", "verify bag")
+            "report image out.html", "seal image bag", "verify bag")
 """The commands that take altered images in turn; the last two take the same one."""
 COUNT, LEAST = 44, 10
 """The number of altered images, and how many of them a replay finds at the least."""

@@ -203,7 +203,6 @@ JSON_LINES = option("--json", "print one JSON object per line")
 TIMES = [option("--times", "marks of the time of day (default: IMAGE.times, if it exists)", "FILE", PATH),
          option("--drift", "maximum clock drift in ppm (default: 100)", "PPM", int),
          option("--strangers", "go on where the marks name another unit or vehicle than IMAGE.identity")]
-STRANGERS = option("--strangers", "go on where IMAGE.identity names another unit or vehicle")
 JOBS = Jobs()
 WITHIN = Setting("--answer-within", "time limit for each answer of the other unit", "SECONDS", float, "units.other_unit:WITHIN_S")
 JOURNAL = [
@@ -265,10 +264,7 @@ EVIDENCE = [
     Command("redact", "evidence", "cli.evidence_commands:redact", "Hand out a journal without the driver's identity and the running number",
             "Makes a new folder with report, table, events and causes, and FOLDER.key, which you keep. Never makes an image. Status 4: the folder is made, and "
             "the verdict of the image has a sentence.", "redact evidence handed_out",
-            Argument("source", "IMAGE|BAG", "a journal image, or a folder that `lab seal` made"), Argument("folder", "FOLDER", "the folder to make")),
-    Command("diff", "evidence", "cli.evidence_commands:show_difference", "Compare two images of one unit",
-            "Status 0: both hold the same journal, or B continues A, and `lab check` finds nothing in them. Status 4: anything else.", "diff monday friday",
-            Argument("a", "A", "the image that was read first"), Argument("b", "B", "the image that was read later"), STRANGERS, JSON)]
+            Argument("source", "IMAGE|BAG", "a journal image, or a folder that `lab seal` made"), Argument("folder", "FOLDER", "the folder to make"))]
 TESTING: list[Command | Commands] = [
     Command("build", "testing", "cli.testing_commands:write_scenario", "Compile a YAML scenario to the JSON that `etcs run` reads",
             "Errors name the file, line and column.", "build drive.yaml drive.json",

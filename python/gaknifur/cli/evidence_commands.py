@@ -1,11 +1,10 @@
-"""The commands about evidence: `seal`, `verify`, `redact` and `diff`."""
-import json
+"""The commands about evidence: `seal`, `verify` and `redact`."""
 import sys
 from types import SimpleNamespace
 
 from ..escaping import shown
 from ..journal.reading import Progress
-from ..program import FOUND, NOT_WHOLE, WRONG_WORDS, Failed
+from ..program import FOUND, WRONG_WORDS, Failed
 from .journal_commands import say_verdict
 
 
@@ -51,12 +50,3 @@ def redact(given: SimpleNamespace, progress: Progress) -> int:
                      f"keep {shown(redaction.key_of(given.folder).name)}, and don't hand it out: with it lab verify shows of which image the copy was made\n")
     sys.stdout.flush()
     return say_verdict(given.source, judged)
-
-
-def show_difference(given: SimpleNamespace, progress: Progress) -> int:
-    """Runs `lab diff`."""
-    from ..evidence import diff
-    found = diff.compare(given.a, given.b, given.strangers)
-    sys.stdout.write(json.dumps(diff.as_json(found), ensure_ascii=False) + "\n" if given.json else diff.text(found))
-    sys.stdout.flush()
-    return max(0 if found.verdict in diff.FINE else NOT_WHOLE, *(say_verdict(one.path, one.judged) for one in (found.a, found.b)))

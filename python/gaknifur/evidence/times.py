@@ -5,7 +5,6 @@ The drift of the unit's clock is bounded, so each mark bounds the time of day of
 the midpoint of the interval that all marks of its life allow, with its half-width. If two marks of a life contradict, both are named, and
 that life has no time of day. Lines such as `unit: 17` say whose the marks are (module `identity`).
 """
-import contextlib
 import csv
 import datetime
 import itertools
@@ -277,13 +276,3 @@ def marks_of(image: Path, named: Path | None) -> Path | None:
 def check_marks(image: Path, marks: Path, left: str) -> None:
     """Refuses marks of another unit or vehicle than the image."""
     check([*known([image]), (marks, read_marks(marks)[3])], left)
-
-
-def known_with_marks(paths: Iterable[Path]) -> Iterator[tuple[Path, Identity]]:
-    """Whose images and the marks next to them are, where files say it. Marks that can't be read say nothing."""
-    for path in paths:
-        yield from known([path])
-        marks = marks_of(path, None)
-        if marks is not None:
-            with contextlib.suppress(Failed):
-                yield marks, read_marks(marks)[3]

@@ -2,7 +2,7 @@
  * @file
  * Telegrams of balises (ERTMS/ETCS level 1, UNISIG SUBSET-026 issue 2.3.0), for C and C++.
  *
- * Link with libetcs_c.a, which `rt lib` in crates/etcs_c builds.
+ * Link with libetcs_unit.a (tools/library).
  *
  * The functions are proved to do what is said here, on every input, as long as the caller keeps what it owes:
  *

@@ -2,20 +2,13 @@
 # Test the C library from C and C++: telegrams with hand-written answers (check.c), the program of its README, and random
 # telegrams compared with the plain decoder. Each program is compiled as C and as C++. Needs gcc, g++ and Python.
 #
-#     tests/c_library.sh [LIBRARY]    test LIBRARY (default: prove and build the library first)
+#     tests/c_library.sh LIBRARY    test LIBRARY (tests/unit.sh does so)
 export PYTHONDONTWRITEBYTECODE=1
 top=$(cd "$(dirname "$(readlink -f -- "$0")")/.." && pwd) || exit 1
-readme=$top/crates/etcs_c/README.md
-library=$top/crates/etcs_c/out/libetcs_c.a
+readme=$top/crates/etcs_unit/README.md
+library=$(realpath "${1:?}") || exit 1
 made=$(mktemp -d) || exit 1
 trap 'rm -rf "$made"' EXIT
-if [ $# -gt 0 ]; then
-    library=$(realpath "$1") || exit 1
-elif ! "$top/tools/build_c_library" >"$made/said" 2>&1; then
-    cat "$made/said"
-    echo "C library: it isn't built"
-    exit 1
-fi
 status=0
 
 fails() { echo "$*"; status=1; }
@@ -29,7 +22,7 @@ compiled() {
 
 sed -n '/^```c$/,/^```$/{/^```/d;p}' "$readme" >"$made/readme"
 wanted=$(sed -n 's/^prints `\(.*\)`\.$/\1/p' "$readme")
-[ -s "$made/readme" ] && [ -n "$wanted" ] || fails "crates/etcs_c/README.md has no program, or no line that it prints"
+[ -s "$made/readme" ] && [ -n "$wanted" ] || fails "crates/etcs_unit/README.md has no program, or no line that it prints"
 compiled check "$top/tests/c/check.c"
 compiled readme "$made/readme"
 compiled answers "$top/tests/c/answers.c"
@@ -37,7 +30,7 @@ for language in c cpp; do
     [ -x "$made/check.$language" ] && [ -x "$made/readme.$language" ] && [ -x "$made/answers.$language" ] || continue
     "$made/check.$language" || fails "check.$language: answers that were worked out by hand are others"
     printed=$("$made/readme.$language") || fails "readme.$language ends with another status than 0"
-    [ "$printed" = "$wanted" ] || fails "readme.$language prints \"$printed\", and crates/etcs_c/README.md says \"$wanted\""
+    [ "$printed" = "$wanted" ] || fails "readme.$language prints \"$printed\", and crates/etcs_unit/README.md says \"$wanted\""
     "$top/tests/c/random_telegrams.py" "$made/answers.$language" || fails "answers.$language: random telegrams have other answers"
 done
 echo "C library: $([ $status -eq 0 ] && echo "no failures" || echo "failures, see above")"

@@ -39,7 +39,7 @@ git clone -q "$first" "$second" && find "$second" -path '*/.git' -prune -o -exec
 words=--unproved
 if ./etcs --is-proved && ./etcs_lab --is-proved && [ -r crates/etcs_unit/out/libetcs_unit.a.sources ]; then words=--this-machine; fi
 for folder in "$first" "$second"; do
-    for name in etcs etcs_lab etcs_unit etcs_c; do
+    for name in etcs etcs_lab etcs_unit; do
         mkdir -p "$folder/crates/$name/out"
         find "crates/$name/out" -maxdepth 1 -type f \( -name "$name" -o -name "$name.*" -o -name "lib$name.a*" \) -exec cp {} "$folder/crates/$name/out" \; 2>/dev/null
     done

@@ -37,6 +37,7 @@ include=$prefix/include
 archive=$prefix/lib/libetcs_unit.a
 shared=$prefix/lib/libetcs_unit.so
 export GAKNIFUR_ETCS_UNIT=$shared LD_LIBRARY_PATH=$prefix/lib
+"$top/tests/c_library.sh" "$archive" || status=1
 
 compilers=(gcc)
 ! command -v clang >/dev/null || compilers+=(clang)
@@ -104,9 +105,9 @@ counted "names of the library" "$(wc -l <"$made/shown")" 123
 
 case $(sed -n 's/^Description: .*, for C\(.*\)$/\1/p' "$prefix/lib/pkgconfig/etcs_unit.pc") in '') proof=proved ;; ', unproved') proof=unproved ;; *) proof=unknown ;; esac
 "$python" "$top/tests/unit/build.py" "$prefix" "$proof" || status=1
-raw=${ETCS_UNIT_ARCHIVE:-$top/crates/etcs_unit/out/libetcs_unit.a} raw_telegrams=${ETCS_C_ARCHIVE:-$top/crates/etcs_c/out/libetcs_c.a}
+raw=${ETCS_UNIT_ARCHIVE:-$top/crates/etcs_unit/out/libetcs_unit.a}
 cp "$raw" "$made/named.a"
-ETCS_UNIT_ARCHIVE=$made/named.a ETCS_C_ARCHIVE=$raw_telegrams "$top/tools/library" "$made/named" >"$made/said" 2>&1 && grep -q '^installed etcs_unit .*, proof unknown, interface' "$made/said" ||
+ETCS_UNIT_ARCHIVE=$made/named.a "$top/tools/library" "$made/named" >"$made/said" 2>&1 && grep -q '^installed etcs_unit .*, proof unknown, interface' "$made/said" ||
     { cat "$made/said"; fails "a library over an archive that nobody knows passes as proved"; }
 "$python" "$top/tests/unit/build.py" "$made/named" unknown unknown || status=1
 
@@ -345,7 +346,7 @@ for program in "$made"/refused.*; do "$python" "$top/tests/unit/refused_lives.py
 (cd "$top/python" && "$python" -m unittest -q tests.test_unit tests.test_guard) >"$made/said" 2>&1 && grep -q '^Ran 32 tests' "$made/said" && ! grep -q skipped "$made/said" ||
     { cat "$made/said"; fails "python/tests/test_{unit,guard}.py: failures, or other than 32 tests"; }
 "$python" "$top/tests/unit/integration.py" || status=1
-ETCS_LAB=$lab ETCS_UNIT_ARCHIVE=$raw ETCS_C_ARCHIVE=$raw_telegrams "$python" "$top/tests/documents.py" start/c howto/c-loop howto/c-flash \
+ETCS_LAB=$lab ETCS_UNIT_ARCHIVE=$raw "$python" "$top/tests/documents.py" start/c howto/c-loop howto/c-flash \
     howto/c-static-memory howto/c-display howto/c-guard howto/c-journal howto/cpp howto/python howto/rust || status=1
 echo "the unit: $([ $status -eq 0 ] && echo "no failures" || echo "failures, see above")"
 exit $status

@@ -1,6 +1,6 @@
 use Rattle.std.proofs.Common.{◌∙◌, refl}
-use Rattle.etcs_c.proofs.Description.{walk_length, walk_of}
-use Rattle.etcs_c.proofs.etcs_packet_count.Goals as goal
+use Rattle.etcs_unit.proofs.Description.{walk_length, walk_of}
+use Rattle.etcs_unit.proofs.telegrams.etcs_packet_count.Goals as goal
 
 pub returns-in-Ok-clause-carried : goal.returns-in-Ok-clause-carried
 returns-in-Ok-clause-carried c = λ t r. c.len.ensures ∙ walk_length c.args.bytes.now _ t c.in-Ok.ensures.found r

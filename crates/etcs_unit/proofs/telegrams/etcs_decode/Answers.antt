@@ -1,10 +1,10 @@
 use Rattle.std.proofs.Common.{◌∙◌, ap, arith, refl, sym, subst}
 use Rattle.bits.proofs.Laws.{err_same}
-use Rattle.etcs_c.proofs.Description.{number_once, number_some, walk_of}
+use Rattle.etcs_unit.proofs.Description.{number_once, number_some, walk_of}
 use Rattle.telegram.specs.Faults.{number_of_fault}
 use Rattle.telegram.specs.Telegrams.{RefusesBytes}
 use Rattle.telegram.specs.declared.fault.TelegramFault.{TelegramFault}
-use Rattle.etcs_c.proofs.etcs_decode.Goals as goal
+use Rattle.etcs_unit.proofs.telegrams.etcs_decode.Goals as goal
 
 pub returns-in-Ok-clause-carried : goal.returns-in-Ok-clause-carried
 returns-in-Ok-clause-carried c =

@@ -1,8 +1,8 @@
 /**
  * @file
- * A cyclic executive around one unit, for C99 and C++, with an operating system or without: conditions 10 to 14, 21 and 23
+ * A cyclic executive around one unit, for C99 and C++, with an operating system or without: conditions 10 to 13, 21 and 23
  * of docs/explain/integration.md as code. There is nothing to link but the library of etcs_unit.h. It takes no memory but an
- * etcs_executive (16 kB), and that of the unit.
+ * etcs_executive (8.3 kB), and that of the unit.
  *
  *     static etcs_executive executive;
  *     static const etcs_equipment equipment = {..};
@@ -16,9 +16,9 @@
  * next cycle that releases one. A unit is opened sector by sector: the executive holds no copy of the medium.
  *
  * A FAULT MEANS THE EMERGENCY BRAKE UNTIL etcs_executive_end AND A NEW etcs_executive_begin. A fault is each answer of the
- * unit but OK, an input that could not be taken, a failed medium, a late cycle, a stack that went beyond its end, a failed
- * self-test, and another channel that answers differently (enum etcs_executive_fault). After a fault the executive takes no
- * input, commands the emergency brake in each cycle, and no longer feeds the watchdog.
+ * unit but OK, an input that could not be taken, a failed medium, a late cycle, and a stack that went beyond its end (enum
+ * etcs_executive_fault). After a fault the executive takes no input, commands the emergency brake in each cycle, and no longer
+ * feeds the watchdog.
  *
  * The caller owes what etcs_unit.h says, and:
  *
@@ -30,8 +30,7 @@
 #ifndef ETCS_EXECUTIVE_H
 #define ETCS_EXECUTIVE_H
 
-#include "etcs_channel.h"
-#include "etcs_self_test.h"
+#include "etcs_unit.h"
 
 #ifdef __cplusplus
 extern "C" {
@@ -49,10 +48,8 @@ extern "C" {
 
 /** The faults of an executive that aren't answers of the unit (enum etcs_unit_status). */
 enum etcs_executive_fault {
-    ETCS_EXECUTIVE_LATE = 301,         /**< a cycle ended too late */
-    ETCS_EXECUTIVE_STACK = 302,        /**< the stack went beyond its end */
-    ETCS_EXECUTIVE_SELF_TEST = 303,    /**< the self-test has another digest than the reference model */
-    ETCS_EXECUTIVE_OTHER_CHANNEL = 304 /**< the other channel answered differently, or not in time */
+    ETCS_EXECUTIVE_LATE = 301, /**< a cycle ended too late */
+    ETCS_EXECUTIVE_STACK = 302 /**< the stack went beyond its end */
 };
 
 /** What the executive calls of the equipment. Each function gets `of`, those of the medium `medium`. Calls that answer an int
@@ -82,9 +79,6 @@ typedef struct {
     void (*obey)(void *of, const etcs_unit_output *command);
     /** Feeds the watchdog: called only after an output of this cycle was obeyed. */
     void (*feed)(void *of);
-    /** Sends what this channel answers, ETCS_CHANNEL_BYTES bytes, and receives the same of the other channel; 0 where that
-     * didn't come in time. NULL where there is one channel. */
-    int (*exchange)(void *of, const uint8_t *own, uint8_t *other);
 } etcs_equipment;
 
 /** An executive. Its fields are for reading. */
@@ -95,20 +89,15 @@ typedef struct {
     uint64_t cycles;          /**< how many cycles ran until a fault */
     uint64_t due_us;          /**< when the next cycle is due */
     uint64_t longest_us;      /**< the longest time from when a cycle was due to its end */
-    uint64_t outputs_digest;  /**< of the outputs that this cycle released */
-    uint64_t requests_digest; /**< of the requests that this cycle carried out */
     uint32_t fault;           /**< the first fault (enum etcs_unit_status or enum etcs_executive_fault), or OK */
     uint32_t released;        /**< how many outputs this cycle released */
-    uint8_t own[ETCS_CHANNEL_BYTES];        /**< what this channel compared last */
-    uint8_t other[ETCS_CHANNEL_BYTES];      /**< what the other channel sent of it */
     uint8_t bytes[ETCS_UNIT_REQUEST_BYTES]; /**< of the request that is carried out */
-    etcs_self_test test;                    /**< the train of the self-test */
 } etcs_executive;
 
 /** Returns the name of a fault, without ETCS_EXECUTIVE_ or ETCS_UNIT_; "unknown" for other numbers. */
 static inline const char *etcs_executive_fault_name(uint32_t fault) {
-    static const char *const names[] = {"LATE", "STACK", "SELF_TEST", "OTHER_CHANNEL"};
-    return ((fault > 300u) && (fault < 305u)) ? names[fault - 301u] : etcs_status_name(fault);
+    static const char *const names[] = {"LATE", "STACK"};
+    return ((fault > 300u) && (fault < 303u)) ? names[fault - 301u] : etcs_status_name(fault);
 }
 
 /* Keeps the first fault: from then on the emergency brake is commanded, whatever was released. */
@@ -125,11 +114,6 @@ static inline void etcs_executive_fail_(etcs_executive *executive, uint32_t faul
 static inline uint32_t etcs_executive_do_(etcs_executive *executive, const etcs_unit_request_info *request) {
     const etcs_equipment *const equipment = executive->equipment;
     const int is_read = request->kind == (uint64_t)ETCS_REQUEST_READ;
-    if (is_read == 0) {
-        uint64_t digest = etcs_digest_number_(executive->requests_digest, request->kind);
-        digest = etcs_digest_number_(etcs_digest_number_(digest, request->sector), request->sectors);
-        executive->requests_digest = etcs_digest_bytes_(digest, executive->bytes, request->sectors * ETCS_UNIT_SECTOR);
-    }
     if (((is_read != 0) ? equipment->read_sector(equipment->medium, request->sector, executive->bytes)
                         : equipment->carry_out(equipment->medium, request, executive->bytes)) == 0) {
         (void)etcs_unit_fail(&executive->unit);
@@ -161,9 +145,6 @@ static inline uint32_t etcs_executive_release_(etcs_executive *executive) {
     if (status == (uint32_t)ETCS_UNIT_OK) {
         status = etcs_unit_command(outputs, count, &executive->command);
     }
-    for (uint32_t i = 0; (status == (uint32_t)ETCS_UNIT_OK) && (i < count); i++) {
-        executive->outputs_digest = etcs_digest_output_(executive->outputs_digest, &outputs[i]);
-    }
     executive->released += (status == (uint32_t)ETCS_UNIT_OK) ? count : 0u;
     return status;
 }
@@ -175,7 +156,6 @@ static inline uint32_t etcs_executive_flush_(etcs_executive *executive) {
     uint8_t strictest = (uint8_t)ETCS_BRAKE_NONE;
     uint32_t flushes = 0, taken, status;
     executive->released = 0;
-    executive->outputs_digest = etcs_digest_begin_();
     do {
         taken = equipment->take_inputs(equipment->of, &executive->unit);
         flushes++;
@@ -206,67 +186,12 @@ static inline uint32_t etcs_executive_check_stack_(const etcs_equipment *equipme
     return status;
 }
 
-static inline uint32_t etcs_executive_check_channel_(etcs_executive *executive) {
-    const etcs_equipment *const equipment = executive->equipment;
-    const uint64_t parts[] = {executive->cycles, executive->fault, etcs_channel_number_(&executive->command),
-                              executive->command.event, executive->outputs_digest, executive->requests_digest,
-                              etcs_digest_state_(&executive->unit)};
-    for (uint32_t part = 0; part < (uint32_t)ETCS_CHANNEL_SAME; part++) {
-        etcs_channel_put_(&executive->own[8u * part], parts[part]);
-    }
-    return ((equipment->exchange == NULL)
-            || ((equipment->exchange(equipment->of, executive->own, executive->other) != 0)
-                && (etcs_channel_difference(executive->own, executive->other) == (uint32_t)ETCS_CHANNEL_SAME)))
-               ? (uint32_t)ETCS_UNIT_OK
-               : (uint32_t)ETCS_EXECUTIVE_OTHER_CHANNEL;
-}
-
 static inline uint32_t etcs_executive_check_time_(etcs_executive *executive) {
     const etcs_equipment *const equipment = executive->equipment;
     const uint64_t now = equipment->now_us(equipment->of);
     const uint64_t took = (now > executive->due_us) ? (now - executive->due_us) : 0u;
     executive->longest_us = (took > executive->longest_us) ? took : executive->longest_us;
     return (took < equipment->late_us) ? (uint32_t)ETCS_UNIT_OK : (uint32_t)ETCS_EXECUTIVE_LATE;
-}
-
-/* ---- the self-test */
-
-/* A life up to a step; the digest of the outputs of each cycle goes to `digest`. */
-static inline uint32_t etcs_executive_test_(etcs_executive *executive, uint32_t cold, uint32_t to, uint64_t *digest) {
-    uint32_t status = etcs_unit_begin(&executive->unit, executive->equipment->sectors, cold);
-    status = (status == (uint32_t)ETCS_UNIT_OK) ? etcs_executive_release_(executive) : status;
-    for (; (status == (uint32_t)ETCS_UNIT_OK) && (executive->test.step < to); executive->test.step++) {
-        status = etcs_executive_flush_(executive);
-        *digest = etcs_digest_number_(*digest, executive->outputs_digest);
-    }
-    (void)etcs_unit_close(&executive->unit);
-    return status;
-}
-
-/** Runs the self-test: two short lives on a ring in memory, by the library and by the executive's own code. Writes the digest
- * of their outputs, of their requests and of the ring; it has to be ETCS_SELF_TEST_DIGEST. etcs_executive_begin calls it. The
- * executive must not be running. Returns OK, or the first answer of the unit that isn't. */
-ETCS_MUST_USE
-static inline uint32_t etcs_executive_self_test(etcs_executive *executive, uint64_t *digest) {
-    const etcs_equipment *const equipment = executive->equipment;
-    etcs_self_test *const test = &executive->test;
-    const etcs_equipment of_test = {test, test, ETCS_SELF_TEST_SECTORS, 0, 0, NULL, 0, etcs_self_test_read_,
-                                    etcs_self_test_carry_out_, NULL, NULL, etcs_self_test_inputs_, NULL, NULL, NULL};
-    uint32_t status = etcs_self_test_format_(test, executive->bytes);
-    executive->equipment = &of_test;
-    executive->requests_digest = etcs_digest_begin_();
-    test->step = 0;
-    *digest = etcs_digest_begin_();
-    if (status == (uint32_t)ETCS_UNIT_OK) {
-        status = etcs_executive_test_(executive, (uint32_t)ETCS_COLD_UNKNOWN, ETCS_SELF_TEST_FIRST, digest);
-    }
-    if (status == (uint32_t)ETCS_UNIT_OK) {
-        status = etcs_executive_test_(executive, (uint32_t)ETCS_COLD_MOVED, ETCS_SELF_TEST_STEPS, digest);
-    }
-    *digest = etcs_digest_number_(*digest, executive->requests_digest);
-    *digest = etcs_digest_bytes_(*digest, test->sectors, sizeof test->sectors);
-    executive->equipment = equipment;
-    return status;
 }
 
 /* ---- the calls */
@@ -279,19 +204,16 @@ static inline void etcs_executive_clear_(etcs_executive *executive, const etcs_e
     executive->command = first;
     executive->cycles = 0;
     executive->longest_us = 0;
-    executive->requests_digest = etcs_digest_begin_();
-    executive->outputs_digest = etcs_digest_begin_();
     executive->released = 0;
     executive->fault = (uint32_t)ETCS_UNIT_OK;
 }
 
-/** Powers up: obeys the emergency brake, paints the guard below the stack, runs the self-test, opens the unit on the medium
- * and carries out its power-up. The first cycle is due one cycle later. Call it after each power-up, and after a fault and
+/** Powers up: obeys the emergency brake, paints the guard below the stack, opens the unit on the medium and carries out its
+ * power-up. The first cycle is due one cycle later. Call it after each power-up, and after a fault and
  * etcs_executive_end, then with ETCS_COLD_UNKNOWN. The executive is all zeros before its first begin. Returns OK, or the
  * fault; where the unit is still open, IS_OPEN, and nothing has changed. Before the first cycle the watchdog is fed once. */
 ETCS_MUST_USE
 static inline uint32_t etcs_executive_begin(etcs_executive *executive, const etcs_equipment *equipment, uint32_t cold) {
-    uint64_t digest = 0;
     uint32_t status;
     if (executive->unit.is_open != 0u) {
         return (uint32_t)ETCS_UNIT_IS_OPEN;
@@ -299,12 +221,7 @@ static inline uint32_t etcs_executive_begin(etcs_executive *executive, const etc
     etcs_executive_clear_(executive, equipment);
     equipment->obey(equipment->of, &executive->command);
     etcs_executive_paint_(equipment);
-    status = etcs_executive_self_test(executive, &digest);
-    etcs_executive_clear_(executive, equipment);
-    if ((status != (uint32_t)ETCS_UNIT_OK) || (digest != ETCS_SELF_TEST_DIGEST)) {
-        status = (uint32_t)ETCS_EXECUTIVE_SELF_TEST;
-    }
-    status = (status == (uint32_t)ETCS_UNIT_OK) ? etcs_unit_begin(&executive->unit, equipment->sectors, cold) : status;
+    status = etcs_unit_begin(&executive->unit, equipment->sectors, cold);
     status = (status == (uint32_t)ETCS_UNIT_OK) ? etcs_executive_release_(executive) : status;
     etcs_executive_fail_(executive, status);
     executive->due_us = equipment->now_us(equipment->of) + equipment->cycle_us;
@@ -314,8 +231,8 @@ static inline uint32_t etcs_executive_begin(etcs_executive *executive, const etc
     return status;
 }
 
-/** Runs a cycle: waits until it is due, takes the inputs, flushes them, compares with the other channel, obeys, and feeds the
- * watchdog where an output was obeyed. Call it again and again after etcs_executive_begin, whatever it returns: after a fault
+/** Runs a cycle: waits until it is due, takes the inputs, flushes them, obeys, and feeds the watchdog where an output was
+ * obeyed. Call it again and again after etcs_executive_begin, whatever it returns: after a fault
  * it only commands the emergency brake. Returns OK, or the fault that holds. */
 ETCS_MUST_USE
 static inline uint32_t etcs_executive_cycle(etcs_executive *executive) {
@@ -325,8 +242,6 @@ static inline uint32_t etcs_executive_cycle(etcs_executive *executive) {
         executive->cycles++;
         etcs_executive_fail_(executive, etcs_executive_flush_(executive));
         etcs_executive_fail_(executive, etcs_executive_check_stack_(equipment));
-        etcs_executive_fail_(executive, etcs_executive_check_channel_(executive));
-        executive->requests_digest = etcs_digest_begin_();
         etcs_executive_fail_(executive, etcs_executive_check_time_(executive));
     }
     equipment->obey(equipment->of, &executive->command);

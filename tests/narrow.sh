@@ -3,8 +3,7 @@
 # by other compilers. The driver of tests/targets.sh executes its script over the proved library on x86-64, and over what
 # tools/library makes from its module: for ARMv7, Cortex-M7 and Cortex-R52 (by qemu-user), for Cortex-M7 on a bare board (by
 # qemu-system), and as C source on x86-64 by gcc and by clang, and on PowerPC (by qemu-user). Each answer, output and byte of the
-# medium has to be the same, and so have the sizes and offsets of the structs. Then two channels, one of them the C source, compare
-# their answers in random lives, also where a bit of one's memory is flipped.
+# medium has to be the same, and so have the sizes and offsets of the structs.
 #
 #     tests/narrow.sh [LIVES CALLS TELEGRAMS]    (default: 100 6000 2000; the long form is 400 20000 20000)
 #
@@ -171,26 +170,12 @@ for name in run_{powerpc,m7,armv7,thumbv7em,armv8r,source_gcc,source_clang}; do 
 "$python" "$here/scripts.py" compare "$made/script" "$made"/printed.{x86_64,armv7,thumbv7em,armv8r,board_m7,source_gcc,source_clang,source_powerpc} || status=1
 echo "narrow: $(wc -l <"$made/printed.x86_64") lines compared on each machine"
 
-# ---- the executive, with its self-test, which has one digest everywhere
+# ---- the executive
 
 for one in "qemu-arm armv7-none-eabi" "qemu-ppc source_powerpc"; do
     read -r by name <<<"$one"
     "$by" "$made/executive.$name" >"$made/said" 2>&1 || { cat "$made/said"; fails "the executive ($name)"; }
 done
-
-# ---- two channels: the library as it is compiled from the module, and the C source by gcc. They agree, and what a flipped bit
-# changes is noticed before it is obeyed
-
-"$python" "$top/tests/unit/channels.py" 20 >"$made/lives" || fails "there are no lives for two channels"
-channel() {
-    gcc -std=gnu11 -Wall -Wextra -Werror -Wconversion -Wsign-conversion -O2 -I "$first/include" -I "$top/tests/unit" "$top/tests/unit/channels.c" "${@:2}" -o "$made/$1" ||
-        fails "channels.c doesn't compile: $1"
-}
-channel channel_llvm "$first/lib/libetcs_unit_no_malloc.a"
-channel channel_gcc -DAS_SOURCE "$made"/source_gcc.etcs_{wasm,calls,source}.o -lm
-"$made/channel_llvm" alone "$made/lives" "$made/answers" || fails "a channel has no answers"
-"$made/channel_gcc" along "$made/lives" "$made/answers" || fails "two channels differ"
-for name in channel_llvm channel_gcc; do "$made/$name" flips "$made/lives" "$made/answers" 128 || fails "a flipped bit isn't noticed ($name)"; done
 
 # ---- sizes and places
 

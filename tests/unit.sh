@@ -1,7 +1,7 @@
 #!/bin/bash
 # Test the unit from C, C++, Python, Rust and Ada, all built from the folder that tools/library makes: each header by itself, the names that
 # the library exports, sizes and offsets, wrong calls, files, starts of slots, two units at once, the
-# executive, also over what FreeRTOS and Zephyr declare, inputs of the odometer, media that lose power, the examples, images compared with `etcs journal`, random lives compared with `etcs run`, instructions
+# executive, media that lose power, the examples, images compared with `etcs journal`, random lives compared with `etcs run`, instructions
 # compared with kept counts and bounds, the stack of each call compared with the headers, a disk that is full, memory that is refused, and the commands of the pages for makers. Needs gcc, g++, valgrind, cargo, gnat and Debian's Python; clang
 # is used where it is installed.
 #
@@ -49,7 +49,7 @@ sanitizers=(-fsanitize=address,undefined -fno-sanitize-recover=all -static-libas
 
 printf '#include "etcs.h"\n#include "etcs_unit.h"\n#include "etcs_image.h"\n#include "etcs_guard.h"\n' >"$made/all.c"
 tried=0
-for header in etcs etcs_unit etcs_file etcs_image etcs_guard etcs_memory etcs_executive etcs_channel etcs_self_test etcs_odometer etcs_nor; do
+for header in etcs etcs_unit etcs_file etcs_image etcs_guard etcs_memory etcs_executive etcs_nor; do
     echo "#include \"$header.h\"" >"$made/alone"
     echo "typedef int something;" >>"$made/alone"
     for words in "c -std=c99" "c -std=c11" "c -std=c17" "c++ -std=c++17" "c++ -std=c++20"; do
@@ -60,7 +60,7 @@ for header in etcs etcs_unit etcs_file etcs_image etcs_guard etcs_memory etcs_ex
         done
     done
 done
-counted "headers alone" $tried 55
+counted "headers alone" $tried 40
 # a dropped answer that may mean the brake is a warning
 dropped=$top/tests/unit/dropped.c
 sed -n '/from here on/,/up to here/=' "$dropped" | sed '1d;$d' >"$made/drops"
@@ -70,9 +70,9 @@ for words in "gcc -x c -std=c99" "gcc -x c -std=c11" "g++ -x c++ -std=c++17" "g+
     LC_ALL=C $words -Wunused-result -I "$include" -c "$dropped" -o /dev/null 2>&1 | sed -n 's/^.*dropped\.c:\([0-9]*\):.* warning: ignoring return value.*/\1/p' >"$made/warned"
     diff "$made/drops" "$made/warned" >"$made/said" || { cat "$made/said"; fails "$words doesn't warn just of each answer that may mean the brake"; }
 done
-counted "answers that aren't dropped" "$(wc -l <"$made/drops")" 38
+counted "answers that aren't dropped" "$(wc -l <"$made/drops")" 33
 # so do they for a machine of 32 bits, where a length of C has 32 too (etcs_file.h is for POSIX, and wants its headers)
-cat "$made/all.c" - <<<$'#include "etcs_executive.h"\n#include "etcs_odometer.h"\n#include "etcs_nor.h"' >"$made/narrow.c"
+cat "$made/all.c" - <<<$'#include "etcs_executive.h"\n#include "etcs_nor.h"' >"$made/narrow.c"
 gcc -m32 -std=c99 -ffreestanding "${strict[@]}" -I "$include" -fsyntax-only "$made/narrow.c" || fails "the headers don't compile for a machine of 32 bits"
 
 # ---- the names that the library shows are those that the headers declare or define, as gcc reads them
@@ -121,20 +121,20 @@ soname=$(objdump -p "$shared" | sed -n 's/^ *SONAME *//p')
 
 # build NAME FILE COMPILER WORDS..
 build() {
-    "$3" "${@:4}" -g "${strict[@]}" -I "$include" -I "$top/tests/unit" -I "$top/tests/unit/rtos" "$2" -x none "${link[@]}" -pthread -o "$made/$1" && built=$((built + 1)) ||
+    "$3" "${@:4}" -g "${strict[@]}" -I "$include" -I "$top/tests/unit" "$2" -x none "${link[@]}" -pthread -o "$made/$1" && built=$((built + 1)) ||
         fails "$1 doesn't compile ($3 ${*:4})"
 }
 
 built=0
 link=("$archive")
 "$python" "$top/tests/unit/layout.py" --program >"$made/places.c" || fails "layout.py prints no program"
-for name in layout misuse sectors media files two life reading starts listing again explained driver_info preview telegrams guard executive odometer rtos; do
+for name in layout misuse sectors media files two life reading starts listing again explained driver_info preview telegrams guard executive; do
     source=$top/tests/unit/$name.c
     [ "$name" != layout ] || source=$made/places.c
     for compiler in "${compilers[@]}"; do build "$name.$compiler" "$source" "$compiler" -x c -std=c99 -O2; done
     build "$name.cpp" "$source" g++ -x c++ -std=c++17 -O2 -Wno-missing-field-initializers
 done
-for name in misuse sectors media files two life reading starts listing again explained driver_info preview telegrams guard executive odometer rtos; do
+for name in misuse sectors media files two life reading starts listing again explained driver_info preview telegrams guard executive; do
     build "$name.checked" "$top/tests/unit/$name.c" gcc -x c -std=c99 -O1 "${sanitizers[@]}"
 done
 for name in brake flash why; do
@@ -166,7 +166,7 @@ for one in "$top"/examples/embedding/ada/{brake,read_image}.adb "$top"/tests/uni
         fails "$(basename "$one") doesn't compile"
 done
 for name in brake guard read_image; do cp "$made/rust/debug/$name" "$made/${name/guard/stops}.rs" && built=$((built + 1)); done
-counted "programs built" $built 78
+counted "programs built" $built 72
 
 # ---- what they answer
 
@@ -178,7 +178,7 @@ runs_well() {
 }
 
 "$python" "$top/tests/unit/layout.py" "$made"/layout.* || fails "sizes and places differ"
-for program in "$made"/misuse.* "$made"/sectors.* "$made"/two.* "$made"/reading.* "$made"/starts.* "$made"/telegrams.* "$made"/guard.* "$made"/executive.* "$made"/rtos.*; do runs_well "$program"; done
+for program in "$made"/misuse.* "$made"/sectors.* "$made"/two.* "$made"/reading.* "$made"/starts.* "$made"/telegrams.* "$made"/guard.* "$made"/executive.*; do runs_well "$program"; done
 for program in "$made"/files.*; do
     rm -rf "$made/room"
     mkdir "$made/room"
@@ -199,7 +199,7 @@ for program in misuse.gcc sectors.gcc "media.gcc 2003" two.gcc reading.gcc start
     # shellcheck disable=SC2086
     runs_well valgrind -q --error-exitcode=9 --leak-check=full --errors-for-leak-kinds=all --show-leak-kinds=all $(echo "$made/$program")
 done
-counted "runs of them, 14 of them under valgrind" $runs 54
+counted "runs of them, 14 of them under valgrind" $runs 51
 
 # ---- the examples: the same train in each language, over the same file
 
@@ -244,12 +244,6 @@ for program in "$made"/stops.* "$python $top/examples/embedding/guard.py"; do
     PYTHONPATH=$top/python $program >"$made/said" 2>&1 && diff "$made/stops" "$made/said" && guards=$((guards + 1)) || fails "${program##*/} has other lines"
 done
 counted "guards of the examples" $guards 4
-
-# ---- the executive's self-test compared with the plain programs, and inputs of the odometer
-
-"$python" "$top/tests/unit/self_test.py" "$("$made/executive.gcc" self-test)" || status=1
-"$python" "$top/tests/unit/odometer.py" "$made/odometer.gcc" || status=1
-"$made/odometer.checked" >"$made/said" || { cat "$made/said"; fails "odometer.c with sanitizers"; }
 
 # ---- a disk that another file fills
 

@@ -197,7 +197,7 @@ static void choose_loss(void) {
 
 static uint32_t live(void) {
     const etcs_equipment equipment = {NULL, NULL, SECTORS, CYCLE_MS * 1000u, LATE_MS * 1000u, stack_guard, (size_t)(stack_end - stack_guard), read_sector, carry_out,
-                                      now_us, wait_until_us, take_inputs, obey, feed, NULL};
+                                      now_us, wait_until_us, take_inputs, obey, feed};
     uint32_t fault = etcs_memory_use(memory, sizeof memory);
     world->bytes_left = UINT64_MAX;
     if (fault == ETCS_UNIT_OK) {

@@ -119,7 +119,7 @@ int main(int count, char **words) {
     cycle_ms = count > 3 ? strtoull(words[3], NULL, 10) : cycle_ms;
     const uint64_t late_ms = count > 4 ? strtoull(words[4], NULL, 10) : LATE_MS;
     etcs_equipment equipment = {NULL, &file, 0, cycle_ms * 1000u, late_ms * 1000u, NULL, 0, etcs_file_read_sector,
-                                etcs_file_carry_out_request, now_us, wait_until_us, take_inputs, obey, feed, NULL};
+                                etcs_file_carry_out_request, now_us, wait_until_us, take_inputs, obey, feed};
     if (mlockall(MCL_CURRENT | MCL_FUTURE) != 0)
         puts("the memory can't be locked here: a cycle may wait for a page");
     const uint32_t answer = open_file(&file, words[1], &equipment.sectors);

@@ -91,7 +91,7 @@ int main(int count, char **words) {
     train our = {0, 0, 0, 0, {0, 0, ETCS_STAND_BY, ETCS_LEVEL_INVALID, ETCS_BRAKE_EMERGENCY, ETCS_SHOWS_NOT_REVALIDATED}};
     etcs_file file = {0};
     etcs_equipment equipment = {&our, &file, 0, CYCLE_MS * 1000u, CYCLE_MS * 1000u, NULL, 0, etcs_file_read_sector,
-                                etcs_file_carry_out_request, now_us, wait_until_us, take_inputs, obey, feed, NULL};
+                                etcs_file_carry_out_request, now_us, wait_until_us, take_inputs, obey, feed};
     if (count != 2)
         return 2;
     uint32_t answer = etcs_file_format(&file, words[1], SLOTS); /* where there is no journal yet */

@@ -3,7 +3,6 @@
 #include "etcs_executive.h"
 #include "etcs_guard.h"
 #include "etcs_memory.h"
-#include "etcs_odometer.h"
 
 void drops(etcs_unit *unit, etcs_file *file, etcs_unit_output *outputs, uint8_t *bytes, uint64_t *number, uint32_t *count);
 
@@ -16,9 +15,6 @@ void drops(etcs_unit *unit, etcs_file *file, etcs_unit_output *outputs, uint8_t 
     static etcs_demand demand;
     static etcs_executive executive;
     static etcs_equipment equipment;
-    static etcs_pulses pulses;
-    static etcs_pulses_reading reading;
-    static etcs_held held;
     /* from here on */
     etcs_decode(bytes, 8);
     etcs_status_classify(*count, ETCS_OF_DRIVER);
@@ -49,11 +45,6 @@ void drops(etcs_unit *unit, etcs_file *file, etcs_unit_output *outputs, uint8_t 
     etcs_file_open_medium(file, "image", number);
     etcs_executive_begin(&executive, &equipment, ETCS_COLD_UNKNOWN);
     etcs_executive_cycle(&executive);
-    etcs_executive_self_test(&executive, number);
-    etcs_pulses_read(&pulses, 100, count, &reading);
-    etcs_held_sample(&held, 100, 0, 0);
-    etcs_held_telegram(&held, 1, 0, bytes, 8);
-    etcs_held_hand_in(&held, unit);
     etcs_guard_begin(&guard, ETCS_GUARD_STRICT);
     etcs_guard_hear(&guard, bytes, 8, &situation, count);
     etcs_guard_demand(bytes, 8, &situation, 0, &demand);

@@ -1,19 +1,6 @@
 /* Tests include/etcs_executive.h: what it calls and in which order, what is obeyed, each fault and how long it holds.
  *
- *     executive             the cases
- *     executive self-test   prints the digest of the self-test
- *
  * With OWN_MEMORY over a library that takes memory from a buffer, with AS_SOURCE too over the C source. */
-#include "etcs_unit.h"
-
-/* A library that is wrong by a millisecond in the self-test, where that is wanted. */
-static uint64_t wrong_by_ms;
-
-static inline uint32_t other_clock(etcs_unit *unit, uint64_t moment_ms) {
-    return etcs_unit_clock(unit, moment_ms + wrong_by_ms);
-}
-
-#define etcs_unit_clock other_clock
 #include "etcs_executive.h"
 #include "medium.h"
 #ifdef OWN_MEMORY
@@ -36,7 +23,6 @@ static uint8_t guard[64];
 static char calls[1000]; /* a letter for each call; of the medium's only the first one in a row */
 static uint64_t now, takes_us, inputs, more, fails_at, medium_calls;
 static uint32_t answer;
-static int differs = -1, is_silent;
 static etcs_unit_output obeyed;
 
 static void note(char call) {
@@ -101,15 +87,6 @@ static void feed(void *of) {
     note('F');
 }
 
-static int exchange(void *of, const uint8_t *own, uint8_t *other) {
-    (void)of;
-    note('X');
-    memcpy(other, own, ETCS_CHANNEL_BYTES);
-    if (differs >= 0)
-        other[differs] ^= 0x10;
-    return !is_silent;
-}
-
 static etcs_equipment equipment;
 
 static uint32_t begins(void) {
@@ -117,8 +94,6 @@ static uint32_t begins(void) {
     answer = ETCS_UNIT_OK;
     takes_us = more = fails_at = medium_calls = 0;
     inputs = 1;
-    differs = -1;
-    is_silent = 0;
     return etcs_executive_begin(&executive, &equipment, ETCS_COLD_UNKNOWN);
 }
 
@@ -137,56 +112,45 @@ static void holds(const char *what, uint32_t fault, const char *called) {
     is(what, obeyed.brake, ETCS_BRAKE_EMERGENCY);
     answer = ETCS_UNIT_OK;
     takes_us = fails_at = 0;
-    differs = -1;
-    is_silent = 0;
     cycles("a cycle after a fault", fault, "WO");
     is("its brake", obeyed.brake, ETCS_BRAKE_EMERGENCY);
     is("a begin without an end", etcs_executive_begin(&executive, &equipment, ETCS_COLD_UNKNOWN), ETCS_UNIT_IS_OPEN);
     etcs_executive_end(&executive);
     is("another begin", begins(), ETCS_UNIT_OK);
-    cycles("a cycle after it", ETCS_UNIT_OK, "WIMXOF");
+    cycles("a cycle after it", ETCS_UNIT_OK, "WIMOF");
 }
 
 static void orders(void) {
     is("the first begin", begins(), ETCS_UNIT_OK);
     is("its calls", strcmp(calls, "OMF") == 0, 1);
     is("the brake of it", obeyed.brake, ETCS_BRAKE_EMERGENCY);
-    cycles("a cycle", ETCS_UNIT_OK, "WIMXOF");
+    cycles("a cycle", ETCS_UNIT_OK, "WIMOF");
     is("its event", obeyed.event, 1);
     inputs = 0;
-    cycles("a cycle without inputs", ETCS_UNIT_OK, "WIXO");
+    cycles("a cycle without inputs", ETCS_UNIT_OK, "WIO");
     is("its event", obeyed.event, 1);
     inputs = 8, more = 2;
-    cycles("a cycle of 24 inputs", ETCS_UNIT_OK, "WIMIMIMXOF");
+    cycles("a cycle of 24 inputs", ETCS_UNIT_OK, "WIMIMIMOF");
     is("its event", obeyed.event, 25);
     is("its outputs", executive.released, 24);
     inputs = 1, more = ETCS_EXECUTIVE_FLUSHES;
-    holds("a cycle whose inputs have no end", ETCS_UNIT_PENDING_FULL, "WIMIMIMIMIMIMIMIXO");
+    holds("a cycle whose inputs have no end", ETCS_UNIT_PENDING_FULL, "WIMIMIMIMIMIMIMIO");
 }
 
 static void faults(void) {
     takes_us = LATE_US - 1;
-    cycles("a cycle that is nearly late", ETCS_UNIT_OK, "WIMXOF");
+    cycles("a cycle that is nearly late", ETCS_UNIT_OK, "WIMOF");
     is("its time", executive.longest_us, LATE_US - 1);
     takes_us = LATE_US;
-    holds("a late cycle", ETCS_EXECUTIVE_LATE, "WIMXO");
+    holds("a late cycle", ETCS_EXECUTIVE_LATE, "WIMO");
     answer = ETCS_UNIT_OUT_OF_RANGE;
-    holds("a reading that isn't taken", ETCS_UNIT_OUT_OF_RANGE, "WIXO");
+    holds("a reading that isn't taken", ETCS_UNIT_OUT_OF_RANGE, "WIO");
     fails_at = 1;
-    holds("a medium that fails", ETCS_UNIT_FAILED, "WIMXO");
+    holds("a medium that fails", ETCS_UNIT_FAILED, "WIMO");
     for (unsigned i = 0; i < sizeof guard; i += sizeof guard - 1) {
         guard[i] = 0;
-        holds("a stack beyond its end", ETCS_EXECUTIVE_STACK, "WIMXO");
+        holds("a stack beyond its end", ETCS_EXECUTIVE_STACK, "WIMO");
     }
-    for (int byte = 0; byte < ETCS_CHANNEL_BYTES; byte++) {
-        differs = byte;
-        cycles("a channel that differs", ETCS_EXECUTIVE_OTHER_CHANNEL, "WIMXO");
-        is("where", etcs_channel_difference(executive.own, executive.other), (uint64_t)byte / 8);
-        etcs_executive_end(&executive);
-        is("another begin", begins(), ETCS_UNIT_OK);
-    }
-    is_silent = 1;
-    holds("a channel that says nothing", ETCS_EXECUTIVE_OTHER_CHANNEL, "WIMXO");
     etcs_executive_end(&executive);
     is("the brake of an end", obeyed.brake, ETCS_BRAKE_EMERGENCY);
 }
@@ -253,31 +217,11 @@ static void brakes(void) {
     etcs_executive_end(&executive);
 }
 
-/* Where the self-test fails no unit is open, and nothing is fed. */
-static void self_test(void) {
-    uint64_t digest;
-    wrong_by_ms = 1;
-    is("a begin", begins(), ETCS_EXECUTIVE_SELF_TEST);
-    is("its calls", strcmp(calls, "O") == 0, 1);
-    is("its brake", obeyed.brake, ETCS_BRAKE_EMERGENCY);
-    cycles("a cycle after it", ETCS_EXECUTIVE_SELF_TEST, "WO");
-    is("no answer differs", etcs_executive_self_test(&executive, &digest), ETCS_UNIT_OK);
-    is("the digest does", digest != ETCS_SELF_TEST_DIGEST, 1);
-    wrong_by_ms = 0;
-}
-
-int main(int count, char **words) {
-    uint64_t digest = 0;
-    (void)words;
+int main(void) {
 #ifdef OWN_MEMORY
     if (etcs_memory_use(memory, sizeof memory) != ETCS_UNIT_OK)
         return 2;
 #endif
-    if (count > 1) {
-        const uint32_t status = etcs_executive_self_test(&executive, &digest);
-        printf("%llx\n", (unsigned long long)digest);
-        return status != ETCS_UNIT_OK;
-    }
     on = formatted(SLOTS);
     equipment.medium = &on;
     equipment.sectors = 1 + 6 * SLOTS;
@@ -292,16 +236,14 @@ int main(int count, char **words) {
     equipment.take_inputs = take_inputs;
     equipment.obey = obey;
     equipment.feed = feed;
-    equipment.exchange = exchange;
-    self_test();
     orders();
     faults();
     power_ups();
     brakes();
-    static const char *const names[] = {"unknown", "LATE", "STACK", "SELF_TEST", "OTHER_CHANNEL", "unknown"};
-    for (uint32_t i = 0; i < 6; i++)
+    static const char *const names[] = {"unknown", "LATE", "STACK", "unknown"};
+    for (uint32_t i = 0; i < 4; i++)
         is("a name", (uint64_t)strcmp(etcs_executive_fault_name(300 + i), names[i]), 0);
     is("the name of an answer", (uint64_t)strcmp(etcs_executive_fault_name(ETCS_UNIT_FAILED), "FAILED"), 0);
     free(on.bytes);
-    return report("executive", 580);
+    return report("executive", 290);
 }

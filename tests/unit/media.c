@@ -321,7 +321,7 @@ static void feed(void *of) {
 
 static void under_an_executive(void) {
     static const etcs_equipment equipment = {NULL, &nor, SECTORS, 100000, 50000, NULL, 0, etcs_nor_read_sector, etcs_nor_carry_out, now_us, wait_until_us,
-                                             take_inputs, obey, feed, NULL};
+                                             take_inputs, obey, feed};
     for (uint32_t lives = 0; lives < LIVES / 4; lives++) {
         left = draw(4) ? 1 + draw(60000) : UINT64_MAX;
         nor.next = 0;

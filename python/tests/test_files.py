@@ -236,11 +236,10 @@ class Words(Room):
         (self.room / "kept").mkdir()
         (self.room / "link").symlink_to("nowhere")
         for name in ("kept", "link"):
-            for words in (["search", str(TOP / "suites/safety_laws.search.yaml"), "--examples", "1"], ["hazards", "--minutes", "0.01"]):
-                errors = io.StringIO()
-                with contextlib.redirect_stderr(errors), contextlib.redirect_stdout(io.StringIO()):
-                    self.assertEqual(main([*words, "--keep", str(self.room / name)]), REFUSED, words)
-                self.assertIn(f"{name}: already exists; name a new folder", errors.getvalue())
+            errors, words = io.StringIO(), ["search", str(TOP / "suites/safety_laws.search.yaml"), "--examples", "1"]
+            with contextlib.redirect_stderr(errors), contextlib.redirect_stdout(io.StringIO()):
+                self.assertEqual(main([*words, "--keep", str(self.room / name)]), REFUSED, words)
+            self.assertIn(f"{name}: already exists; name a new folder", errors.getvalue())
         self.assertEqual(list((self.room / "kept").iterdir()), [])
 
     def test_of_a_drive(self) -> None:

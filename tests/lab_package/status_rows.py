@@ -92,8 +92,6 @@ ROWS = """\
 2 lab verify sealed --key sealed
 2 lab lint --without nosuch plain.json
 2 lab search --examples 0 search.yaml
-2 lab hazards --depth 0
-2 lab hazards --alphabet other
 2 tools/settle
 2 tools/verify
 3 etcs journal nosuch

@@ -332,17 +332,6 @@ TESTING: list[Command | Commands] = [
             option("--against", "check the answers of another unit: a command that speaks the protocol of docs/howto/oracle.md", "COMMAND"),
             option("--records", "check these records of any unit instead of searching: lines as `etcs_lab events` prints them", "EVENTS.jsonl", PATH),
             WITHIN, JOBS),
-    Command("hazards", "testing", "cli.hazard_commands:hazards", "Search small tracks exhaustively for the hazards of a train",
-            "The unit is the library that `tools/library PREFIX` makes; GAKNIFUR_ETCS_UNIT names its .so. Needs gcc. Status 4: a hazard was found that no "
-            "item of docs/explain/safety.md explains.", "hazards --hazard H1 --minutes 1",
-            option("--hazard", "only this hazard, of H1 to H8 (default: all)", "HAZARD", multiple=True),
-            option("--track", "only the small tracks whose names contain this text", "TEXT", default=""),
-            option("--alphabet", "core: a dozen inputs for each track, for longer sequences (default: standard)", "core|standard", default="standard"),
-            Setting("--depth", "the most symbols in a sequence", "N", int, "cli.hazard_commands:DEPTH"),
-            Setting("--minutes", "end the search after this time", "MINUTES", float, "cli.hazard_commands:MINUTES"),
-            JOBS, option("--resume", "go on from this file, and add what is done", "FILE", PATH),
-            option("--keep", "write what is found into this new folder: test cases, and a scenario for each life", "FOLDER", PATH),
-            option("--steps", "print the steps of everything that is found"), option("--unmerged", "visit equal states again")),
     Command("sequence", "testing", "cli.testing_commands:sequence", "Convert a table of test steps to test cases",
             "MAPPING.yaml maps the columns and wordings of your table. Status 1: something isn't mapped, and nothing was made. Status 4: made, and "
             "something was left out or isn't mapped (--partly).", "sequence steps.csv mapping.yaml steps.case.yaml",

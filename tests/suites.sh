@@ -1,6 +1,6 @@
 #!/bin/bash
 # Tests the corpus of test cases in suites/ on the programs that the full check built: each expected result comes, each section and transition
-# has a case or a reason, the records reach all that can be reached, untrue cases fail, lint finds weak tracks and lines, the commands of the
+# has a case or a reason, untrue cases fail, lint finds weak tracks and lines, the commands of the
 # pages for test laboratories print what the pages say, and a search over random lives finds no fault.
 #
 #     tests/suites.sh [ETCS_LAB ETCS [PREFIX]]    on other programs, and with the unit's library below PREFIX
@@ -13,7 +13,7 @@ trap 'rm -rf "$made"' EXIT
 tools/python --checks || exit 1
 find_library "$made" "$3" # its guard judges telegrams that the unit skips or refuses
 status=0
-output=$(./lab test suites --reached "$made/reached.json" 2>&1) || status=1
+output=$(./lab test suites 2>&1) || status=1
 count=$(sed -n 's/^\([0-9]*\) passed in .*/\1/p' <<< "$output")
 if [ $status -ne 0 ] || [ "${count:-0}" -lt $least ]; then
     status=1
@@ -22,7 +22,6 @@ fi
 echo "suites: ${count:-no} results passed"
 covered=$(./lab coverage suites 2>&1) || { status=1; echo "$covered"; }
 tail -n 1 <<< "$covered"
-/usr/bin/python3 tests/suites/measured_rows.py "$made/reached.json" || status=1
 /usr/bin/python3 tests/suites/limits.py "$etcs" "$lab" || status=1
 /usr/bin/python3 tests/suites/control.py "$etcs" "$lab" || status=1
 /usr/bin/python3 tests/suites/lint_rows.py "$etcs" "$lab" || status=1

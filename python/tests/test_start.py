@@ -83,7 +83,7 @@ class Misspelt(Room):
     """An option that isn't one, whose value would be taken for the folder."""
 
     def test_the_nearest_is_named(self) -> None:
-        for word, near in (("--sectoin", "--section"), ("--agianst", "--against"), ("--reachd=a", "--reached")):
+        for word, near in (("--sectoin", "--section"), ("--agianst", "--against"), ("--answer-witin=1", "--answer-within")):
             self.assertEqual(self.lab("test", word, "3", "suites"), (2, "", f"lab: test: unknown option {word.partition('=')[0]}; did you mean {near}?\n"))
 
 

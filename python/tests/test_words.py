@@ -26,7 +26,7 @@ from gaknifur.journal.plausibility import Thresholds
 from gaknifur.journal.reading import Json
 from gaknifur.journal.wording import INDICATIONS
 from gaknifur.lives import BrakeCause, LimitCause, TripCause
-from gaknifur.testing import case_runner, cases_together, measured_coverage
+from gaknifur.testing import case_runner, cases_together
 from gaknifur.testing.case_runner import Keep, Played, with_speeds
 from gaknifur.testing.cases import Case
 from gaknifur.unit import Indication
@@ -81,7 +81,7 @@ class Order(unittest.TestCase):
 
     def test_jobs(self) -> None:
         """The number of processes has one name in all commands, and the former one is understood."""
-        for words in ("campaign O.db", "coverage F", "search F", "sweep F", "test F"):
+        for words in ("campaign O.db", "search F", "sweep F", "test F"):
             found = [params(f"{words} {more}")["jobs"] for more in ("", "--jobs 3", "--workers 3")]
             self.assertEqual(found, [os.cpu_count(), 3, 3])
             with contextlib.redirect_stderr(io.StringIO()) as errors:
@@ -316,16 +316,6 @@ class Suites(InFolder):
         """The journal of the stand-in."""
         self.assertEqual(path.read_bytes(), b"the image")
         return journal(record(0, "powerup", mode="SB"))
-
-    def test_what_is_reached(self) -> None:
-        out = self.room / "reached.json"
-        self.assertEqual(self.lab("--reached", str(out), "-k", "comes")[0], 0)
-        self.assertEqual(measured_coverage.read(out), {name: {"power-up words": ["unknown"]} for name in ("one", "two of a/kind")})
-        status, output = self.lab("--reached", str(out))
-        self.assertEqual((status, "--force overwrites it" in output), (1, True))
-        out.write_text("mine")
-        self.assertEqual(self.lab("--reached", str(out), "--force", "-k", "comes")[0], 0)
-        self.assertEqual(len(measured_coverage.read(out)), 2)
 
     def test_what_comes_is_not_kept(self) -> None:
         kept = self.room / "kept"

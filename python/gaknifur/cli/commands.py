@@ -280,7 +280,6 @@ TESTING: list[Command | Commands] = [
             option("--section", "only results about this section of SUBSET-026 or its subsections", "SECTION", multiple=True),
             option("--feature", "only cases of this feature", "FEATURE", multiple=True),
             option("--junitxml --junit-xml junitxml", "write the results as JUnit XML", "OUT.xml", PATH),
-            option("--reached", "write what each case reaches, for `coverage --measured --reached`", "OUT.json", PATH),
             option("--python", "also run the folder's Python files for pytest (conftest.py, settings, test modules); they run with all your permissions"),
             option("--replay", "run each case with `etcs run` on a file, and examine and replay its image"), JOBS,
             FORCE, option("--keep", "keep the image and report of each failed case in this new folder", "FOLDER"),
@@ -291,12 +290,8 @@ TESTING: list[Command | Commands] = [
             "network. Status 4: a result of the newest run failed.", "results monday.xml friday.xml results.html",
             Argument("paths", "RESULTS.xml...", "results, one file for each run", nargs=-1, required=True), Argument("out", "OUT.html", "the page to make"), FORCE),
     Command("coverage", "testing", "cli.testing_commands:show_coverage", "List the sections and transitions that the cases of a folder cover",
-            "Status 4: a section or transition of the product has neither a case nor a reason why not.", "coverage suites --measured",
-            Argument("folder", "FOLDER", "a folder or a file with test cases"),
-            option("--measured", "run the cases and list what they reach: modes, causes, packets, refusals and others. Status 4: less than the folder's "
-                   "measured.yaml asks for"),
-            option("--reached", "read this file of `lab test --reached` instead of running the cases", "FILE.json", PATH),
-            option("--cases", "also list which case reaches each"), JOBS),
+            "Status 4: a section or transition of the product has neither a case nor a reason why not.", "coverage suites",
+            Argument("folder", "FOLDER", "a folder or a file with test cases")),
     Command("lint", "testing", "testing.lint:lint", "List faults and weak points of scenarios and test cases",
             "Runs `etcs_lab lint` and then the checks of docs/explain/safety.md. A case that is meant to show an item lists it under `shows`. Status 3: something "
             "was not judged, since the unit's library is missing. Status 4: something was found.", "lint suites --without advice",

@@ -102,10 +102,8 @@ def run_tests(given: SimpleNamespace, progress: Progress) -> None:
     for word in given.others:
         if word.partition("=")[0] in WRITING:
             raise Failed(f"pytest's {word} isn't supported here, since it overwrites files", WRONG_WORDS)
-    from ..testing import reached_plugin
     out = files.Out(given.junitxml, given.force) if given.junitxml else None
-    reached = files.Out(given.reached, given.force) if given.reached else None
-    files.check_all([one for one in (out, reached) if one], [given.folder])
+    files.check_all([out] if out else [], [given.folder])
     root = given.folder if given.folder.is_dir() else given.folder.parent
     selected = [f"--{name}={one}" for name in ("section", "feature") for one in getattr(given, name)]
     how = [f"--jobs={given.jobs}"] + ([f"--keep={given.keep}"] if given.keep else []) + (["--replay"] if given.replay else [])
@@ -117,7 +115,7 @@ def run_tests(given: SimpleNamespace, progress: Progress) -> None:
         status = run_pytest(given.folder, [
             "-q", "--no-header", *PLUGIN, "-o", f"cache_dir={results_of(root)}", "-W",
             "ignore::pytest.PytestCacheWarning", f"--rootdir={root}", *([] if given.python else WITHOUT_PYTHON), *words,
-            str(given.folder), *how, *selected, *given.others], plugins + ([reached_plugin.Reaches(reached)] if reached else []))
+            str(given.folder), *how, *selected, *given.others], plugins)
     if status == pytest.ExitCode.NO_TESTS_COLLECTED:
         why = "no test matches these options" if selected or given.others else "it contains no test case (NAME.case.yaml)"
         raise Failed(f"{given.folder}: {why}, so none was run", REFUSED)
@@ -139,28 +137,8 @@ def write_results(given: SimpleNamespace, progress: Progress) -> int:
     return FOUND if failed else 0
 
 
-def check_measured(given: SimpleNamespace) -> None:
-    """Refuses options that need `--measured` without it."""
-    for name in ("reached", "cases"):
-        if getattr(given, name) and not given.measured:
-            raise Failed(f"coverage: --{name} needs --measured", WRONG_WORDS)
-
-
-def show_measured(given: SimpleNamespace, progress: Progress) -> None:
-    """Prints what the cases of a folder reach, as measured."""
-    from ..testing import measured_coverage
-    found = measured_coverage.matrix(given.folder, given.reached, given.jobs, progress)
-    sys.stdout.write(measured_coverage.text(found, given.cases))
-    sys.stdout.flush()
-    if found.faults:
-        raise Failed(f"{given.folder}: the cases reach less than is declared, as the lines above say", FOUND)
-
-
 def show_coverage(given: SimpleNamespace, progress: Progress) -> None:
     """Runs `lab coverage`."""
-    check_measured(given)
-    if given.measured:
-        return show_measured(given, progress)
     from ..testing import coverage
     found = coverage.matrix(given.folder)
     sys.stdout.write(coverage.text(found))

@@ -19,7 +19,6 @@ from ..cli import unit_commands
 from ..program import Failed
 from ..units import oracle, other_unit
 from . import case_files, case_runner, cases, cases_together, mode_table
-from .reached_plugin import REACHES, Reaches
 
 AGREES = "another unit answers each event like the proved one"
 FIRST = "each life ends as expected; the image is whole, and its records are the released outputs"
@@ -83,8 +82,7 @@ class CaseTests(pytest.Collector):
 
     def collect(self) -> Iterator[pytest.Item]:
         """An item for whether the case can be judged at all, perhaps one for another unit, and one for each expected result."""
-        player = Player(self.case, folder_of(self.config), self.config.stash.get(REACHES, None),
-                        self.config.getoption("--against"), self.config.getoption("--answer-within"))
+        player = Player(self.case, folder_of(self.config), self.config.getoption("--against"), self.config.getoption("--answer-within"))
         yield Item.from_parent(self, name=name_of(self.case, FIRST), player=player, expected=None, table=self.table)
         if player.against:
             yield AgainstItem.from_parent(self, name=name_of(self.case, AGREES), player=player, expected=None, table=self.table)
@@ -106,9 +104,8 @@ def name_of(case: cases.Case, expected: cases.Expected | str) -> str:
 class Player:
     """Runs a case once for all its tests, and another unit once, if there is one."""
 
-    def __init__(self, case: cases.Case, folder: Path | None, reaches: Reaches | None = None, against: str | None = None,
-                 within_s: float = other_unit.WITHIN_S) -> None:
-        self.case, self.folder, self.reaches = case, folder, reaches
+    def __init__(self, case: cases.Case, folder: Path | None, against: str | None = None, within_s: float = other_unit.WITHIN_S) -> None:
+        self.case, self.folder = case, folder
         self.against, self.within_s = against, within_s
         self.comparison: oracle.Comparison | None = None
         self.together: cases_together.Together | None = None
@@ -121,8 +118,6 @@ class Player:
             self.outcome = self.together.take(self.case)
             if self.folder is None:
                 self.outcome = replace(self.outcome, image=b"")
-            if self.reaches and isinstance(self.outcome.result, case_runner.Played):
-                self.reaches.take(self.case, self.outcome.result)
         return self.outcome.played()
 
     def compare(self, command: str) -> oracle.Comparison:
@@ -249,9 +244,8 @@ def pytest_collection_finish(session: pytest.Session) -> None:
     """Lets the cases of all selected tests run together."""
     players = {id(item.player): item.player for item in session.items if isinstance(item, Item)}
     if players:
-        why = session.config.stash.get(REACHES, None) is not None
         found, option = [one.case for one in players.values()], session.config.getoption
-        together = cases_together.Together(found, why, option("--replay"), option("--jobs"))
+        together = cases_together.Together(found, False, option("--replay"), option("--jobs"))
         session.config.add_cleanup(together.close)
         for one in players.values():
             one.together = together

@@ -22,7 +22,7 @@ PROGRAMS = {name: Path(os.environ.get(name.upper()) or TOP / f"crates/{name}/out
 COMMANDS = {"start/c": 9, "start/code": 8, "start/investigate": 10, "start/tests": 6, "howto/c-display": 2,
             "howto/c-flash": 2, "howto/c-guard": 2, "howto/c-journal": 6,
             "howto/c-loop": 2, "howto/c-static-memory": 2, "howto/closed-loop": 9,
-            "howto/coverage": 2, "howto/cpp": 2, "howto/damaged-image": 20, "howto/line": 4, "howto/lint": 10,
+            "howto/coverage": 2, "howto/cpp": 2, "howto/damaged-image": 20, "howto/lint": 10,
             "howto/oracle": 7, "howto/play": 5, "howto/python": 1, "howto/replay": 11,
             "howto/report": 3, "howto/rust": 2, "howto/seal": 13, "howto/searching": 8, "howto/sequences": 9,
             "howto/sql": 15, "howto/sweep": 4, "howto/tables": 10, "howto/telegrams": 7, "howto/time-of-day": 8,

@@ -1,6 +1,6 @@
 #!/bin/bash
 # Tests the corpus of test cases in suites/ on the programs that the full check built: each expected result comes, each section and transition
-# has a case or a reason, untrue cases fail, lint finds weak tracks and lines, the commands of the
+# has a case or a reason, untrue cases fail, lint finds weak tracks, the commands of the
 # pages for test laboratories print what the pages say, and a search over random lives finds no fault.
 #
 #     tests/suites.sh [ETCS_LAB ETCS [PREFIX]]    on other programs, and with the unit's library below PREFIX
@@ -25,9 +25,8 @@ tail -n 1 <<< "$covered"
 /usr/bin/python3 tests/suites/limits.py "$etcs" "$lab" || status=1
 /usr/bin/python3 tests/suites/control.py "$etcs" "$lab" || status=1
 /usr/bin/python3 tests/suites/lint_rows.py "$etcs" "$lab" || status=1
-/usr/bin/python3 tests/suites/line_rows.py "$etcs" "$lab" || status=1
 /usr/bin/python3 tests/suites/planted.py --texts || status=1
 ETCS=$etcs ETCS_LAB=$lab /usr/bin/python3 tests/documents.py start/tests howto/write-test-cases howto/coverage howto/telegrams howto/lint howto/play howto/sweep \
-    howto/sequences howto/line || status=1
+    howto/sequences || status=1
 /usr/bin/python3 tests/suites/search.py "$etcs" "$lab" || status=1
 exit $status

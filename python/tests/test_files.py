@@ -167,22 +167,13 @@ class Writing(Room):
             files.check_all([Out(self.room / "out")], others=[self.room / "out"])
 
 
-def commands_of(group: click.Group, *words: str) -> Iterator[tuple[list[str], click.Command]]:
-    """The commands of lab, with their words."""
-    for name, one in group.commands.items():
-        if isinstance(one, click.Group):
-            yield from commands_of(one, *words, name)
-        else:
-            yield [*words, name], one
-
-
 def written() -> Iterator[tuple[list[str], click.Command, click.Parameter, str]]:
     """Each file that a command of lab may write: the command, the parameter that names the file, and a suffix that it may have."""
-    for words, command in commands_of(lab):
+    for name, command in lab.commands.items():
         for one in command.params:
             if "OUT" in (one.metavar or "") or one.name == "image" and isinstance(one, click.Option):
                 for suffix in re.findall(r"OUT((?:\.\w+)*)", one.metavar or "") or [""]:
-                    yield words, command, one, ".svg" if one.name == "picture" else suffix
+                    yield [name], command, one, ".svg" if one.name == "picture" else suffix
 
 
 def line_of(words: list[str], command: click.Command, param: click.Parameter, out: Path) -> list[str]:
@@ -216,7 +207,7 @@ class Words(Room):
         (self.room / "empty").mkdir()
         found = list(written())
         self.assertGreaterEqual({(" ".join(words), one.name) for words, _, one, _ in found}, {
-            ("table", "out"), ("case", "out"), ("test", "junitxml"), ("line check", "html"),
+            ("table", "out"), ("case", "out"), ("test", "junitxml"),
             ("sweep", "csv"), ("drive", "image"), ("drive", "scenario"), ("campaign", "paths"), ("campaign", "csv")})
         for words, command, one, suffix in found:
             force = ["--force"] if any("--force" in other.opts for other in command.params) else []

@@ -35,7 +35,6 @@ class Natural(click.ParamType):
 
 
 NATURAL = Natural(0, 999_999_999)
-METAVAR = "COMMAND [ARGUMENT]..."
 SECTIONS = {"journal": "Journals", "evidence": "Evidence", "testing": "Testing", "simulation": "Simulation", "units": "Other units"}
 
 
@@ -83,29 +82,20 @@ class Command(click.Command):
             formatter.write(f"  $ lab {self.example}\n")
 
 
-class Commands(click.Group):
-    """A command with commands of its own."""
+class Lab(click.Group):
+    """All commands, listed by section."""
 
-    def __init__(self, name: str, section: str, short: str, more: str, *commands: Command) -> None:
-        super().__init__(name, commands, short_help=short, help=f"{short}. {more}", params=[HELP], add_help_option=False, no_args_is_help=False,
-                         subcommand_metavar=METAVAR)
-        self.section = section
+    def __init__(self, commands: Sequence[Command], **named: Any) -> None:
+        super().__init__("lab", commands, add_help_option=False, no_args_is_help=False, subcommand_metavar="COMMAND [ARGUMENT]...", **named)
 
     def resolve_command(self, context: click.Context, words: list[str]) -> tuple[str | None, click.Command | None, list[str]]:
         """The command of this name; if there is none, an error offers the nearest one."""
         if words[0] not in self.commands:
             from difflib import get_close_matches
             near = get_close_matches(words[0], self.commands, 1)
-            hint = f"did you mean {near[0]}?" if near else f"{context.command_path} --help lists the commands"
+            hint = f"did you mean {near[0]}?" if near else "lab --help lists the commands"
             context.fail(f"unknown command {words[0]}; {hint}")
         return super().resolve_command(context, words)
-
-
-class Lab(Commands):
-    """All commands, listed by section."""
-
-    def __init__(self, commands: Sequence[Command | Commands], **named: Any) -> None:
-        click.Group.__init__(self, "lab", commands, add_help_option=False, no_args_is_help=False, subcommand_metavar=METAVAR, **named)
 
     def format_commands(self, context: click.Context, formatter: click.HelpFormatter) -> None:
         """A list of commands for each section."""
@@ -113,7 +103,7 @@ class Lab(Commands):
         for section, title in SECTIONS.items():
             with formatter.section(title):
                 formatter.write_dl([(name.ljust(widest), one.short_help or "") for name, one in self.commands.items()
-                                    if isinstance(one, Command | Commands) and one.section == section])
+                                    if isinstance(one, Command) and one.section == section])
 
 
 class Checks(click.Option):
@@ -195,7 +185,6 @@ def help_option(*names: str) -> click.Option:
 HELP = help_option("-h", "--help")
 VERSION = click.Option(["--version"], is_flag=True, is_eager=True, expose_value=False, callback=show_version, help="print version and commit")
 IMAGE = Argument("image", "IMAGE", "a journal image")
-BOOK = Argument("book", "BOOK.yaml", "a line book")
 ALL = option("--all other_blocks", "include readable blocks outside the journal; column `source` marks them")
 FORCE = option("--force", "overwrite an existing file, but never a journal image")
 JSON = option("--json", "print JSON")
@@ -265,7 +254,7 @@ EVIDENCE = [
             "Makes a new folder with report, table, events and causes, and FOLDER.key, which you keep. Never makes an image. Status 4: the folder is made, and "
             "the verdict of the image has a sentence.", "redact evidence handed_out",
             Argument("source", "IMAGE|BAG", "a journal image, or a folder that `lab seal` made"), Argument("folder", "FOLDER", "the folder to make"))]
-TESTING: list[Command | Commands] = [
+TESTING = [
     Command("build", "testing", "cli.testing_commands:write_scenario", "Compile a YAML scenario to the JSON that `etcs run` reads",
             "Errors name the file, line and column.", "build drive.yaml drive.json",
             Argument("yaml", "FILE.yaml", "a scenario"), Argument("out", "[OUT.json]", "output file (default: standard output)", required=False), FORCE),
@@ -297,21 +286,6 @@ TESTING: list[Command | Commands] = [
             "was not judged, since the unit's library is missing. Status 4: something was found.", "lint suites --without advice",
             Argument("paths", "FILE...", "a scenario in JSON or YAML, test cases, or a folder", nargs=-1, required=True), JSON_LINES,
             Checks(["--without"], metavar="ITEM", multiple=True)),
-    Commands("line", "testing", "Check a whole line and its trains, given in one file", "docs/howto/line.md describes the file.",
-             Command("check", "testing", "cli.line_commands:check_line", "List the weak points of a line in each direction, by place",
-                     "Plays trains over each pair of groups in each mode, and with each group and balise unread, and runs the checks of `lab lint`. "
-                     "Status 3: as of `lab lint`. Status 4: something was found that the book doesn't explain.", "line check examples/lines/branch.yaml --html line.html",
-                     BOOK, option("--html", "write a report with pictures of the line", "OUT.html", PATH),
-                     option("--json", "print one JSON object per line, also for findings that are explained"), FORCE),
-             Command("drive", "testing", "cli.line_commands:drive_line", "Make drives of a line for `lab drive` and `lab test`",
-                     "Makes a scenario for each direction and train, and one for each group that isn't read.",
-                     "line drive examples/lines/branch.yaml drives", BOOK, Argument("folder", "FOLDER", "the folder to make"),
-                     option("--play", "also play them, and print what becomes of each")),
-             Command("convert", "testing", "cli.line_commands:convert_table", "Convert a table of balises to a line book",
-                     "MAPPING.yaml maps the columns and wordings of your table. Status 1: something isn't mapped, and nothing was made. Status 4: made, "
-                     "and something was left out.", "line convert balises.csv mapping.yaml line.yaml",
-                     Argument("table", "TABLE.csv|TABLE.xlsx", "the balises"), Argument("mapping", "MAPPING.yaml", "the mapping"),
-                     Argument("out", "[OUT.yaml]", "output file (default: standard output)", required=False), FORCE)),
     Command("sweep", "testing", "cli.testing_commands:run_sweep", "Run a parametrised case at each of its values and print a table",
             "Status 4: an expected result is missing, or a point couldn't be judged.", "sweep brakes.yaml --html brakes.html",
             Argument("yaml", "FILE.yaml", "a case with parameters"), option("--csv", "write the table as CSV", "OUT.csv", PATH),

@@ -1,1 +1,0 @@
-"""Line books: a whole line in one file, checked and driven."""

@@ -5,7 +5,7 @@
 
 Each is an input line of `etcs_lab play` (docs/reference/json.md, Many scenarios): an object with a member `scenario`, which may be a list of scenarios, and
 perhaps `id`, `cold`, `slots` and `sha256`; or only a scenario. The results are the objects that the program prints, in the order of the scenarios. A scenario that can't be run has a
-result too. `play_images` also returns the journal image of each scenario; campaigns, sweeps and test cases use it.
+result too. `play_images` also returns the journal image of each scenario; campaigns and test cases use it.
 """
 import contextlib
 import json

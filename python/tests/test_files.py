@@ -208,7 +208,7 @@ class Words(Room):
         found = list(written())
         self.assertGreaterEqual({(" ".join(words), one.name) for words, _, one, _ in found}, {
             ("table", "out"), ("case", "out"), ("test", "junitxml"),
-            ("sweep", "csv"), ("drive", "image"), ("drive", "scenario"), ("campaign", "paths"), ("campaign", "csv")})
+            ("drive", "image"), ("drive", "scenario"), ("campaign", "paths"), ("campaign", "csv")})
         for words, command, one, suffix in found:
             force = ["--force"] if any("--force" in other.opts for other in command.params) else []
             foreign, image, folder = self.file(f"foreign{suffix}", b"point,my own\n"), self.file(f"other{suffix}", IMAGE), self.room / f"folder{suffix}"
@@ -371,7 +371,7 @@ class Inputs(Room):
         mapping = self.file("mapping.yaml", b"columns: {step: a, interface: b, action: c}\n"
                             b"case: {feature: a, sections: [4.4], rule: b, starting_conditions: c}\nactions: []\n")
         table = self.file("table.csv", b"a,b,c\n")
-        for words in (("build", "fifo"), ("sweep", "fifo"), ("search", "fifo"), ("lint", "fifo"),
+        for words in (("build", "fifo"), ("search", "fifo"), ("lint", "fifo"),
                       ("sequence", "fifo", mapping.name), ("sequence", table.name, "fifo"),
                       ("search", "--records", "fifo", str(TOP / "suites/safety_laws.search.yaml"))):
             with self.subTest(words):

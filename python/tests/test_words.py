@@ -71,7 +71,7 @@ class Order(unittest.TestCase):
 
     def test_jobs(self) -> None:
         """The number of processes has one name in all commands, and the former one is understood."""
-        for words in ("campaign O.db", "search F", "sweep F", "test F"):
+        for words in ("campaign O.db", "search F", "test F"):
             found = [params(f"{words} {more}")["jobs"] for more in ("", "--jobs 3", "--workers 3")]
             self.assertEqual(found, [os.cpu_count(), 3, 3])
             with contextlib.redirect_stderr(io.StringIO()) as errors:

@@ -33,13 +33,6 @@ starting_conditions: Stand By
 lives: [{steps: [{clock: 1 s}]}]
 expected: [{note: it brakes, at: end, expect: {brake: BRAKE}}]
 """
-SWEEP = """\
-sweep: of a brake
-for: {seconds: [1, 2]}
-lives: [{steps: [{clock: "$seconds s"}]}]
-columns: [{name: brake, at: end, value: brake}]
-expected: [{note: it brakes, at: end, expect: {brake: none}}]
-"""
 SEARCH = """\
 search: of a brake
 properties: [{note: never braked, law: none, never: {brake: emergency}}]
@@ -128,7 +121,6 @@ ROWS = """\
 4 tools/verify sealed
 4 lab test fails --junitxml=fails.xml
 4 lab results fails.xml results.html
-4 lab sweep sweep.yaml
 4 lab campaign fails fails.db
 4 lab coverage good
 4 lab search search.yaml --records events.jsonl
@@ -163,7 +155,7 @@ def rooms(room, etcs, env):
     for name, brake in (("good", "emergency"), ("fails", "none")):
         (room / name).mkdir()
         (room / name / "a.case.yaml").write_text(CASE.replace("BRAKE", brake))
-    for name, text in (("sweep.yaml", SWEEP), ("search.yaml", SEARCH), ("mapping.yaml", MAPPING), ("table.csv", TABLE),
+    for name, text in (("search.yaml", SEARCH), ("mapping.yaml", MAPPING), ("table.csv", TABLE),
                        ("unmapped.yaml", MAPPING.replace("JRU", "DMI"))):
         (room / name).write_text(text)
     (room / "events.jsonl").write_text(run(env["GAKNIFUR_ETCS_LAB"], "events", "image"))

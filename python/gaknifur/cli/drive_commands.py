@@ -11,12 +11,11 @@ from ..escaping import shown
 from ..evidence import identity
 from ..journal.reading import Progress
 from ..program import DEVICE, REFUSED, WRONG_WORDS, Failed
-from ..simulation import drives, driving
+from ..simulation import driving
 from ..simulation.closed_loop import check_library, ends_of, fresh, on_medium, over_image
 from ..simulation.drives import Drive, read
-from ..testing import scenarios, sweeps
+from ..testing import scenarios
 from ..unit import FileMedium
-from ..yaml_files import BadFile
 
 COLUMNS = ("time_ms", "first_event", "event", "place_cm", "speed_m_per_h", "limit_m_per_h", "above_m_per_h", "brake", "mode",
            "braking_cm_per_s2")
@@ -74,27 +73,6 @@ def scenario_text(scenario: scenarios.Scenario, driven: driving.Driven) -> str:
     return scenarios.Scenario(scenario.cold, [], driven.steps).text()
 
 
-BUILD_UP = """\
-- {name: service_m, at: {brake: service, train_speed_kmh: {least: 0}}, value: train_place_m}
-- {name: emergency_m, at: {brake: emergency, train_speed_kmh: {least: 0}}, value: train_place_m}
-- {name: most_above_kmh, most: above_limit_kmh}
-- {name: end_m, at: end, value: train_place_m}
-- {name: end_kmh, at: end, value: train_speed_kmh}
-- {name: beyond_m, at: end, value: beyond_location_m}
-"""
-"""The columns for each build-up time: where each brake was first commanded, and where the train is at the end."""
-
-
-def print_build_ups(path: Path, build_ups: list[str], progress: Progress) -> None:
-    """Prints a sweep of the drive over these build-up times."""
-    from ..testing import sweep_tables
-    from . import testing_commands
-    sweep = sweeps.of_train(path, "build_up", build_ups, BUILD_UP)
-    found = sweeps.play_all(sweep, progress=progress)
-    print(sweep_tables.as_text(sweep, found), end="")
-    testing_commands.check_points(path, found)
-
-
 # ---- the command
 
 UNIT = "lab drive"
@@ -146,17 +124,6 @@ def outs_of(given: SimpleNamespace) -> dict[str, files.Out]:
     return outs
 
 
-def build_ups_of(text: str, drive: Drive) -> list[str]:
-    """The build-up times of the option."""
-    found = [one.strip() for one in text.split(",")]
-    try:
-        for one in found:
-            scenarios.quantity(one, drive.at, "time", 0, drives.MOST_DELAY_MS)
-    except BadFile as bad:
-        raise Failed(f"--build-up: {str(bad).split(': ', 1)[1]}", REFUSED) from bad
-    return found
-
-
 def play_drive(given: SimpleNamespace, progress: Progress) -> None:
     """Runs `lab drive`. Looks for the library first, since compiling `etcs` for the telegrams may take a while."""
     check_library()
@@ -164,8 +131,6 @@ def play_drive(given: SimpleNamespace, progress: Progress) -> None:
     if drive is None:
         raise Failed(f"{given.yaml}: has no `drive`", REFUSED)
     outs = outs_of(given)
-    if given.build_up:
-        return print_build_ups(given.yaml, build_ups_of(given.build_up, drive), progress)
     driven = on_file(given.image, scenario, drive) if given.image else over_image(fresh(scenario, drive), scenario, drive)[0]
     makers: dict[str, Callable[[], str | bytes]] = {
         "csv": lambda: csv_text(driven), "scenario": lambda: scenario_text(scenario, driven),

@@ -1,14 +1,12 @@
-"""The commands about test cases: `build`, `case`, `test`, `results`, `coverage`, `sweep` and `sequence`."""
+"""The commands about test cases: `build`, `case`, `test`, `results`, `coverage` and `sequence`."""
 import contextlib
 import difflib
 import hashlib
 import os
 import sys
 import tempfile
-from collections.abc import Sequence
 from pathlib import Path
 from types import SimpleNamespace
-from typing import TYPE_CHECKING
 
 from .. import files, program
 from ..errors import say
@@ -16,10 +14,6 @@ from ..journal.reading import Progress, read
 from ..program import DEVICE, FOUND, NOT_WHOLE, REFUSED, WRONG_WORDS, Failed
 from .commands import lab
 from .journal_commands import note, out_of, write
-
-if TYPE_CHECKING:
-    from ..testing import sweeps
-
 
 def write_scenario(given: SimpleNamespace, progress: Progress) -> None:
     """Runs `lab build`."""
@@ -145,35 +139,6 @@ def show_coverage(given: SimpleNamespace, progress: Progress) -> None:
     sys.stdout.flush()
     if found.faults:
         raise Failed(f"{given.folder}: coverage differs from what is declared, as the lines above say", FOUND)
-
-
-def check_points(path: Path, found: Sequence["sweeps.PointResult"]) -> None:
-    """Fails unless each point could be judged and had its expected results."""
-    bad = sum(bool(one.missed or one.fault) for one in found)
-    if bad:
-        raise Failed(f"{path}: {bad} of {len(found)} points failed", FOUND)
-
-
-def run_sweep(given: SimpleNamespace, progress: Progress) -> None:
-    """Runs `lab sweep`."""
-    from ..simulation.closed_loop import check_library
-    from ..testing import sweeps
-    outs = {name: files.Out(path, given.force) for name in ("csv", "html") if (path := getattr(given, name))}
-    files.check_all(outs.values(), [given.yaml])
-    program.find("etcs"), program.find()  # once, before the processes are split
-    sweep = sweeps.read(given.yaml)
-    case, _, _ = sweeps.at_point(sweep, sweep.points()[0])
-    if any(life.drive for life in case.lives):
-        check_library()
-    found = sweeps.play_all(sweep, given.jobs, progress, given.replay)
-    from ..testing import sweep_tables
-    makers = {"csv": sweep_tables.as_csv, "html": sweep_tables.as_page}
-    for name, out in outs.items():
-        files.write(out, makers[name](sweep, found), [given.yaml])
-    if not outs:
-        sys.stdout.write(sweep_tables.as_text(sweep, found))
-        sys.stdout.flush()
-    check_points(given.yaml, found)
 
 
 def check_cases(text: str, folder: Path) -> None:

@@ -1,1 +1,1 @@
-"""Scenarios, test cases, coverage, searches, sweeps, sequences, checks of tracks, and the pytest plugin."""
+"""Scenarios, test cases, coverage, searches, sequences, checks of tracks, and the pytest plugin."""

@@ -15,15 +15,9 @@ ON_SIGHT, SHUNTING = "on_sight", "shunting"
 TRIP, NONE, REACTIONS = 0, 2, ("trip", "service", None)
 """Q_LINKREACTION, and what `etcs_lab why` prints of it."""
 NATIONAL_SPEED, ONBOARD, NO_SPEED = 127, 126, 127
-ALWAYS = 255
-"""A restriction of this number isn't revoked."""
 USED, BROKEN = ("announced", "not_linked", "linking_unused"), ("balise_missing", "counters_differ", "telegrams_differ")
 """What became of a group that was accepted, and of one that has no message."""
 DIRECTIONS = {"reverse": 0, "nominal": 1}
-NOTHING: Json = {"known": {
-    "place_cm": 0, "uncertainty_cm": 500, "since_fix_cm": 0, "group_being_read": None, "links": (), "is_free": True, "authority": None,
-    "areas": (), "restrictions": (), "national_values": {"override_allowed_m_per_h": 0}, "announced_values_cm": None, "train": None}}
-"""The line of an event that isn't run again."""
 
 
 def rounded_up(part: int, whole: int) -> int:
@@ -205,14 +199,10 @@ class Walked:
     known: list[Known] = field(default_factory=list)
     messages: list[Message] = field(default_factory=list)
     lost: list[Lost] = field(default_factory=list)
-    reading_cm: int | None = None
-    """The longest movement of a reading on the train, if its readings aren't those of the events."""
 
     @property
     def longest_cm(self) -> int:
         """The longest movement of a reading."""
-        if self.reading_cm is not None:
-            return self.reading_cm
         return max((abs(event.record["movement_cm"]) for event in self.events if "movement_cm" in event.record), default=0)
 
     def mode_before(self, event: int) -> str:
@@ -259,10 +249,6 @@ class Walk:
         for message in self.closed_by(number, event):
             self.judge(message)
             closed.append(message)
-        self.settle(event, closed)
-
-    def settle(self, event: Event, closed: Sequence[Message]) -> None:
-        """Takes over what the kernel knows after an event."""
         self.known = self.known_of(event.line, closed)
 
     # ---- groups

@@ -26,7 +26,6 @@ tail -n 1 <<< "$covered"
 /usr/bin/python3 tests/suites/control.py "$etcs" "$lab" || status=1
 /usr/bin/python3 tests/suites/lint_rows.py "$etcs" "$lab" || status=1
 /usr/bin/python3 tests/suites/planted.py --texts || status=1
-ETCS=$etcs ETCS_LAB=$lab /usr/bin/python3 tests/documents.py start/tests howto/write-test-cases howto/coverage howto/telegrams howto/lint howto/play \
-    howto/sequences || status=1
+ETCS=$etcs ETCS_LAB=$lab /usr/bin/python3 tests/documents.py start/tests howto/write-test-cases howto/coverage howto/telegrams howto/lint howto/play || status=1
 /usr/bin/python3 tests/suites/search.py "$etcs" "$lab" || status=1
 exit $status

@@ -368,11 +368,7 @@ class Inputs(Room):
 
     def test_a_fifo(self) -> None:
         os.mkfifo(self.room / "fifo")
-        mapping = self.file("mapping.yaml", b"columns: {step: a, interface: b, action: c}\n"
-                            b"case: {feature: a, sections: [4.4], rule: b, starting_conditions: c}\nactions: []\n")
-        table = self.file("table.csv", b"a,b,c\n")
         for words in (("build", "fifo"), ("search", "fifo"), ("lint", "fifo"),
-                      ("sequence", "fifo", mapping.name), ("sequence", table.name, "fifo"),
                       ("search", "--records", "fifo", str(TOP / "suites/safety_laws.search.yaml"))):
             with self.subTest(words):
                 done = subprocess.run([TOP / "lab", *words], cwd=self.room, stdin=subprocess.DEVNULL, capture_output=True, text=True, timeout=60)

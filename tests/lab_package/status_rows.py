@@ -37,16 +37,6 @@ SEARCH = """\
 search: of a brake
 properties: [{note: never braked, law: none, never: {brake: emergency}}]
 """
-MAPPING = """\
-columns: {sequence: Sequence, step: "No", interface: I/F, action: Action, expected: Expected}
-case: {feature: Brakes, sections: ["3.14"], rule: a rule, starting_conditions: Stand By}
-actions:
-  - {interface: ODO, text: 'wait', steps: [{clock: 1 s}]}
-  - {interface: JRU, text: .*, left_out: the recorder is tested elsewhere}
-expected:
-  - {text: 'brake (?P<brake>\\w+)', expect: {brake: '{brake}'}}
-"""
-TABLE = "Sequence;No;I/F;Action;Expected\none;1;ODO;wait;brake emergency\none;2;JRU;a message;\n"
 ROWS = """\
 0 etcs format again 16
 0 etcs_lab examine image
@@ -75,7 +65,6 @@ ROWS = """\
 1 lab coverage hollow
 1 lab lint hollow
 1 lab campaign hollow hollow.db
-1 lab sequence table.csv unmapped.yaml
 2 etcs decode
 2 etcs nosuch
 2 etcs_lab nosuch
@@ -126,7 +115,6 @@ ROWS = """\
 4 lab search search.yaml --records events.jsonl
 4 lab against image cat
 4 lab compare fails.db good.db
-4 lab sequence table.csv mapping.yaml steps.case.yaml
 5 lab fault
 130 lab interrupted
 """
@@ -155,9 +143,7 @@ def rooms(room, etcs, env):
     for name, brake in (("good", "emergency"), ("fails", "none")):
         (room / name).mkdir()
         (room / name / "a.case.yaml").write_text(CASE.replace("BRAKE", brake))
-    for name, text in (("search.yaml", SEARCH), ("mapping.yaml", MAPPING), ("table.csv", TABLE),
-                       ("unmapped.yaml", MAPPING.replace("JRU", "DMI"))):
-        (room / name).write_text(text)
+    (room / "search.yaml").write_text(SEARCH)
     (room / "events.jsonl").write_text(run(env["GAKNIFUR_ETCS_LAB"], "events", "image"))
     run(TOP / "lab", "seal", "image", "sealed")
     shutil.copytree(room / "sealed", room / "broken")

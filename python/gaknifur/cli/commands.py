@@ -295,13 +295,7 @@ TESTING = [
             option("--keep", "write what is found into this new folder: a test case, its image and its report", "FOLDER", PATH),
             option("--against", "check the answers of another unit: a command that speaks the protocol of docs/howto/oracle.md", "COMMAND"),
             option("--records", "check these records of any unit instead of searching: lines as `etcs_lab events` prints them", "EVENTS.jsonl", PATH),
-            WITHIN, JOBS),
-    Command("sequence", "testing", "cli.testing_commands:sequence", "Convert a table of test steps to test cases",
-            "MAPPING.yaml maps the columns and wordings of your table. Status 1: something isn't mapped, and nothing was made. Status 4: made, and "
-            "something was left out or isn't mapped (--partly).", "sequence steps.csv mapping.yaml steps.case.yaml",
-            Argument("table", "TABLE.csv|TABLE.xlsx", "the test steps"), Argument("mapping", "MAPPING.yaml", "the mapping"),
-            Argument("out", "[OUT.case.yaml]", "output file (default: standard output)", required=False),
-            option("--partly", "make what can be made, even if something isn't mapped"), FORCE)]
+            WITHIN, JOBS)]
 SIMULATION = [
     Command("drive", "simulation", "cli.drive_commands:play_drive", "Run a simulated train in a closed loop with the onboard unit",
             "The unit is the library that `tools/library PREFIX` makes; GAKNIFUR_ETCS_UNIT names its .so.", "drive drive.yaml --picture drive.svg",

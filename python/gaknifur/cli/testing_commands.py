@@ -1,19 +1,19 @@
-"""The commands about test cases: `build`, `case`, `test`, `results`, `coverage` and `sequence`."""
+"""The commands about test cases: `build`, `case`, `test`, `results` and `coverage`."""
 import contextlib
 import difflib
 import hashlib
 import os
 import sys
-import tempfile
 from pathlib import Path
 from types import SimpleNamespace
 
 from .. import files, program
 from ..errors import say
 from ..journal.reading import Progress, read
-from ..program import DEVICE, FOUND, NOT_WHOLE, REFUSED, WRONG_WORDS, Failed
+from ..program import DEVICE, FOUND, REFUSED, WRONG_WORDS, Failed
 from .commands import lab
 from .journal_commands import note, out_of, write
+
 
 def write_scenario(given: SimpleNamespace, progress: Progress) -> None:
     """Runs `lab build`."""
@@ -139,34 +139,3 @@ def show_coverage(given: SimpleNamespace, progress: Progress) -> None:
     sys.stdout.flush()
     if found.faults:
         raise Failed(f"{given.folder}: coverage differs from what is declared, as the lines above say", FOUND)
-
-
-def check_cases(text: str, folder: Path) -> None:
-    """Checks that the cases can be read, in the folder of their file or of the mapping."""
-    from ..testing import cases
-    with tempfile.NamedTemporaryFile("w", suffix=".case.yaml", dir=folder, encoding="utf-8") as file:
-        file.write(text)
-        file.flush()
-        cases.read(Path(file.name))
-
-
-def sequence(given: SimpleNamespace, progress: Progress) -> int:
-    """Runs `lab sequence`."""
-    from ..testing import sequences
-    out = files.Out(given.out, given.force) if given.out else None
-    files.check_all([out] if out else [], [given.table, given.mapping])
-    mapping = sequences.mapping(given.mapping)
-    made = sequences.cases_of(mapping, sequences.table(given.table, mapping.columns), given.table.stem)
-    for line in (*made.left_out, *made.unmapped):
-        say(line)
-    if made.unmapped and not given.partly:
-        raise Failed(f"{given.table}: {len(made.unmapped)} texts aren't mapped, so nothing was made; "
-                     "--partly makes the rest", REFUSED)
-    text = f"{sequences.MADE}{given.table.name} by {given.mapping.name}\n" + "---\n".join(made.cases)
-    check_cases(text, given.out.absolute().parent if given.out else given.mapping.absolute().parent)
-    if out:
-        files.write(out, text, [given.table, given.mapping])
-    else:
-        sys.stdout.write(text)
-    say(f"{given.table}: {len(made.cases)} cases, {made.steps} actions and {made.results} expected results are mapped")
-    return NOT_WHOLE if made.unmapped or made.left_out else 0

@@ -1,1 +1,1 @@
-"""Scenarios, test cases, coverage, searches, sequences, checks of tracks, and the pytest plugin."""
+"""Scenarios, test cases, coverage, searches, checks of tracks, and the pytest plugin."""

@@ -77,7 +77,7 @@ def sbom(top: Path, facts: dict[str, str], made: Path, stamp: str) -> dict[str, 
 
 def provenance(facts: dict[str, str], parts: dict[str, str], made: Path, stamp: str) -> dict[str, object]:
     """The statement of provenance."""
-    tools = debian(["binutils", "dpkg", "gcc", "gzip", "furo", "help2man", "python3", "python3-build", "python3-myst-parser",
+    tools = debian(["binutils", "dpkg", "gcc", "gzip", "help2man", "python3", "python3-build", "python3-myst-parser",
                     "python3-setuptools", "python3-sphinx", "python3-wheel", "tar"])
     return {
         "_type": "https://in-toto.io/Statement/v1",

@@ -19,7 +19,7 @@ status=0
 "$python" tests/lab_package/verdict_rows.py "$lab" || status=1
 "$python" tests/lab_package/case_rows.py "$etcs" "$lab" || status=1
 "$python" tests/lab_package/status_rows.py "$etcs" "$lab" || status=1
-tools/commands --check "$lab" || status=1
+tools/commands "$lab" || status=1
 "$python" tests/lab_package/release_rows.py || status=1
 "$python" tests/lab_package/campaign_rows.py "$etcs" "$lab" || status=1
 exit $status

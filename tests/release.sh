@@ -121,7 +121,7 @@ inside() { (cd "$room/work" && env -i "HOME=$room/work" "PATH=$root/usr/bin:/usr
 inside sh -c 'command -v rt' && fails "the kit is on the path"
 [ "$words" = --unproved ] && state="not proved: the program is not of a proved build" || state="proved: the program is that of the release"
 site=$root/usr/share/doc/gaknifur/html
-for one in index.html search.html searchindex.js python.html c/index.html howto/c-loop.html generated/tables.html generated/commands.html pictures/page_drive.png; do
+for one in index.html search.html searchindex.js docs/python.html c/index.html docs/howto/c-loop.html out/docs/tables.html out/docs/commands.html; do
     tried=$((tried + 1))
     [ -s "$site/$one" ] || fails "the site has no $one"
 done

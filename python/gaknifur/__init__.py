@@ -2,7 +2,7 @@
 
 Every record of the tables comes from `etcs_lab`; `replay` and `why` come from the library of `gaknifur.unit`. The package itself
 reads only the gates and numbers of the blocks of an image (`layout`), to copy or compare the blocks as they are.
-Call `journal` in a notebook:
+Call `journal` in a notebook::
 
     import gaknifur
     events = gaknifur.journal("image")

@@ -1,4 +1,4 @@
-"""Replay the power cycles (lives) of a journal with the library of `gaknifur.unit`.
+"""Replay the power cycles (lives) of a journal with the library of `gaknifur.unit`::
 
     for line in gaknifur.replay("image"):
         print(line.first_event, line.last_event, line.verdict.name)

@@ -1,4 +1,4 @@
-"""Run the onboard unit from Python, with the shared library that `tools/library PREFIX` installs.
+"""Run the onboard unit from Python, with the shared library that `tools/library PREFIX` installs::
 
     with FileMedium("image") as medium, Unit(medium) as unit:
         unit.odometer(500, 20_000)

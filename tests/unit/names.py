@@ -4,7 +4,7 @@
     tests/unit/names.py LIBRARY SYMBOL..    SYMBOL.. are the names that the library exports
 
 Each number of each enum has a name. It is the enumerator in small letters, or another word that is listed here by hand; and the names of an enum
-are the words of the program that docs/reference/json.md and docs/reference/refusals.md list, which tests/json_reference.py compares with what the program prints. Other
+are the words of the program that docs/reference/json.md and docs/reference/refusals.md list. Other
 numbers are "unknown". That the names are those that `etcs journal`, `etcs_lab replay` and `etcs_lab why` print, images.py, again.py and
 explained.py compare event by event.
 """

@@ -16,17 +16,14 @@ from typing import Any
 import yaml
 
 from .files import opened
-from .program import DEVICE, REFUSED, Failed, naming
+from .program import REFUSED, Failed, naming
 
 NUMBER = re.compile(r"-?[0-9][0-9_]*(\.[0-9]+)?")
 MOST_BYTES, MOST_DEPTH, MOST_VALUES, MOST_DIGITS, MOST_SHOWN, MOST_MESSAGE = 1 << 20, 64, 1 << 20, 28, 80, 4_000
 """The bounds of a file: its bytes, how deep lists and mappings are nested, and the number of its values, where each alias counts
 as what it refers to; the digits of a number; the length of a text that an error quotes, and of an error."""
-READ_OTHERWISE = ("\t", "?", "\ufeff", ">#", "|#")
-"""libyaml allows a tab, a question mark and a comment right after `>` or `|` in more places than PyYAML, and counts a column for a byte
-order mark."""
-PLAIN_TAGS = {f"tag:yaml.org,2002:{name}" for name in
-              ("str", "int", "float", "bool", "null", "timestamp", "map", "seq", "value", "merge", "binary")}
+TAGS = {"scalar": "tag:yaml.org,2002:str", "sequence": "tag:yaml.org,2002:seq", "mapping": "tag:yaml.org,2002:map"}
+"""The tags of nodes that are given no tag."""
 
 
 class BadFile(Failed):
@@ -219,137 +216,77 @@ class Value:
         return found
 
 
-class Bounded(yaml.composer.Composer):  # type: ignore[misc]
-    """Makes nodes of YAML's events. Refuses nodes that are too deep or contain themselves."""
+class Loader(yaml.composer.Composer, getattr(yaml, "CBaseLoader", yaml.BaseLoader)):  # type: ignore[misc]
+    """Reads each scalar as the text that was written. Refuses what is nested too deep."""
 
-    around: list[yaml.Node | None]
+    def __init__(self, text: str) -> None:
+        super(yaml.composer.Composer, self).__init__(text)
+        self.anchors: dict[str, yaml.Node] = {}
+        self.deep = 0
 
     def compose_node(self, parent: yaml.Node | None, index: Any) -> yaml.Node:
-        """The next node, inside those around it."""
-        event = self.peek_event()
-        if len(self.around) > MOST_DEPTH:
-            raise yaml.MarkedYAMLError(problem=f"it is more than {MOST_DEPTH} deep", problem_mark=event.start_mark)
-        self.around.append(parent)
-        meant = self.anchors.get(event.anchor) if isinstance(event, yaml.AliasEvent) else None
-        if meant is not None and any(meant is node for node in self.around):
-            raise yaml.MarkedYAMLError(problem=f"*{shortened(event.anchor)} holds itself", problem_mark=event.start_mark)
+        """The next node."""
+        if self.deep > MOST_DEPTH:
+            raise yaml.MarkedYAMLError(problem=f"it is more than {MOST_DEPTH} deep", problem_mark=self.peek_event().start_mark)
+        self.deep += 1
         node = super().compose_node(parent, index)
-        self.around.pop()
+        self.deep -= 1
         return node
 
 
-class Loader(Bounded, yaml.SafeLoader):  # type: ignore[misc]
-    """Reads YAML in Python, and says what is wrong with it."""
-
-    def __init__(self, text: str) -> None:
-        yaml.SafeLoader.__init__(self, text)
-        self.around = []
-
-
-class QuickLoader(Bounded, getattr(yaml, "CSafeLoader", yaml.SafeLoader)):  # type: ignore[misc]
-    """Reads YAML by libyaml, which PyYAML may have been built with, in less time. Its messages are others."""
-
-    def __init__(self, text: str) -> None:
-        yaml.CSafeLoader.__init__(self, text)
-        self.anchors: dict[str, yaml.Node] = {}
-        self.around = []
-
-
 def check(path: Path, node: yaml.Node, sizes: dict[int, int]) -> int:
-    """Refuses tags such as `!!python`, which have no meaning here, and texts with lone surrogates. Returns the number of values
-    of the node, each alias counted as what it refers to."""
-    if id(node) in sizes:
-        return sizes[id(node)]
-    value = Value(path, node)
-    if node.tag not in PLAIN_TAGS:
-        raise value.fault(f"the tag {shortened(node.tag)} is not allowed")
-    inner: list[yaml.Node] = []
-    if isinstance(node, yaml.ScalarNode) and any("\ud800" <= one <= "\udfff" for one in node.value):
-        raise value.fault("half a character (a lone surrogate) is not allowed")
-    if isinstance(node, yaml.SequenceNode):
-        inner = node.value
-    if isinstance(node, yaml.MappingNode):
-        inner = [one for pair in node.value for one in pair]
-    sizes[id(node)] = 1 + sum(check(path, one, sizes) for one in inner)
-    if sizes[id(node)] > MOST_VALUES:
-        raise value.fault(f"this has more than {MOST_VALUES:,} values, each alias counted as what it refers to")
+    """Refuses tags such as `!!python`, which have no meaning here, and aliases of what they are in. Returns the number of values of the node,
+    each alias counted as what it refers to."""
+    if id(node) not in sizes:
+        if node.tag != TAGS[node.id]:
+            raise Value(path, node).fault(f"the tag {shortened(node.tag)} is not allowed")
+        sizes[id(node)] = 0  # until it is known: it is in itself
+        pairs = node.value if isinstance(node, yaml.MappingNode) else [] if isinstance(node, yaml.ScalarNode) else [node.value]
+        sizes[id(node)] = 1 + sum(check(path, one, sizes) for pair in pairs for one in pair)
+        if sizes[id(node)] > MOST_VALUES:
+            raise Value(path, node).fault(f"this has more than {MOST_VALUES:,} values, each alias counted as what it refers to")
+    elif not sizes[id(node)]:
+        raise Value(path, node).fault("this holds itself by an alias")
     return sizes[id(node)]
 
 
 def text_of(path: Path) -> str:
     """The text of a file."""
-    try:
-        with naming(path), opened(path) as file:
-            data = file.read(MOST_BYTES + 1)
-    except ValueError as error:
-        raise Failed(f"{on_a_line(str(path))}: is not a file name", DEVICE) from error
+    with naming(path), opened(path) as file:
+        data = file.read(MOST_BYTES + 1)
     if len(data) > MOST_BYTES:
         raise Failed(f"{path}: has more than {MOST_BYTES:,} bytes", REFUSED)
     try:
         return data.decode("utf-8")
     except UnicodeDecodeError as error:
-        before = data[:error.start].decode("utf-8")
-        raise at_end_of(path, before, "this is no text in UTF-8") from error
+        raise at_byte(path, data, error.start, "this is no text in UTF-8") from error
 
 
-def at_end_of(path: Path, before: str, message: str) -> BadFile:
-    """An error after a text."""
+def at_byte(path: Path, data: bytes, at: int, message: str) -> BadFile:
+    """An error at a byte of a file."""
+    before = data[:at].decode("utf-8")
     return BadFile(path, before.count("\n") + 1, len(before) - before.rfind("\n"), message)
-
-
-def at_mark(path: Path, mark: Any, message: object) -> BadFile:
-    """An error in the YAML, at a mark of its reader."""
-    return BadFile(path, mark.line + 1 if mark else 1, mark.column + 1 if mark else 1, f"not YAML: {message}")
-
-
-def quick_nodes(text: str) -> list[yaml.Node] | None:
-    """The documents of a text, as libyaml reads it; None if it finds a fault, isn't there, or may read the text in another way."""
-    if not yaml.__with_libyaml__ or any(sign in text for sign in READ_OTHERWISE):
-        return None
-    loader = QuickLoader(text)
-    nodes: list[yaml.Node] = []
-    try:
-        while loader.check_node():
-            nodes.append(loader.get_node())
-    except (yaml.YAMLError, ValueError, OverflowError):
-        return None
-    return nodes
 
 
 def documents(path: Path) -> list[Value]:
     """The documents of a file, `---` between them."""
-    return [Value(path, node) for node in checked_nodes(path, text_of(path))]
+    return [Value(path, node) for node in nodes_of(path, text_of(path))]
 
 
 @functools.lru_cache(maxsize=32)
-def checked_nodes(path: Path, text: str) -> list[yaml.Node]:
-    """The documents of the text of a file, which are checked. Many files include the same ones."""
-    nodes = quick_nodes(text)
-    if nodes is None:
-        nodes = nodes_of(path, text)
-    sizes: dict[int, int] = {}
-    for node in nodes:
-        check(path, node, sizes)
-    return nodes
-
-
 def nodes_of(path: Path, text: str) -> list[yaml.Node]:
-    """The documents of the text of a file, as PyYAML reads it in Python. Says what is wrong with it."""
-    nodes: list[yaml.Node] = []
-    loader = None
+    """The documents of the text of a file, which are checked. Many files include the same ones."""
     try:
-        loader = Loader(text)
-        while loader.check_node():
-            nodes.append(loader.get_node())
+        nodes = list(yaml.compose_all(text, Loader))
+        sizes: dict[int, int] = {}
+        for node in nodes:
+            check(path, node, sizes)
+        return nodes
     except yaml.MarkedYAMLError as error:
-        raise at_mark(path, error.problem_mark or error.context_mark, error.problem or error.context) from error
+        mark = error.problem_mark or error.context_mark
+        raise BadFile(path, mark.line + 1, mark.column + 1, f"not YAML: {error.problem or error.context}") from error
     except yaml.reader.ReaderError as error:
-        message = f"not YAML: the character U+{ord(text[error.position]):04X} is not allowed"
-        raise at_end_of(path, text[:error.position], message) from error
-    except (yaml.YAMLError, ValueError, OverflowError) as error:  # of a number that is no character's, among others
-        message = " ".join(str(error).split()) if isinstance(error, yaml.YAMLError) else "there is no such character"
-        raise at_mark(path, loader.get_mark() if loader else None, message) from error
-    return nodes
+        raise at_byte(path, text.encode("utf-8"), error.position, f"not YAML: {error.reason}") from error
 
 
 def document(path: Path) -> Value:

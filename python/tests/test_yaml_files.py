@@ -1,83 +1,47 @@
-"""What is read of YAML by libyaml is what PyYAML reads in Python, and errors are those of PyYAML."""
+"""YAML with the places of its values."""
 import unittest
 from pathlib import Path
-from typing import Any
-from unittest.mock import patch
 
-import yaml
 from gaknifur import yaml_files
-from gaknifur.yaml_files import BadFile
+from gaknifur.yaml_files import BadFile, Value
 
-TOP = Path(__file__).resolve().parents[2]
 PATH = Path("file.yaml")
-LEAST_FILES = 30
-
-# By hand: texts that one of the two readers refuses, or reads in another way.
-READ_OTHERWISE = (
-    "a: b\tc", "a: [1, 2\t]\n\tb: 3", "{a\ufeff: 1, b: 2}", "a:\n  ? b", "- {a: 0.5 m?/s2}", "[a, b", "a: b: c", "a: 1\n b: 2", "- &a [*a]", "*b",
-    "a: \x07", "\"\\ud800\"", "\"\\U99999999\"", "!!python/object:os.system x", "a: %b\n%c: d", "a: `b`", "--- a\n--- b\n...\n--- [", "[" * 65 + "]" * 65,
-    "a: |\n  text\n b: 1", "'", "a: \u2028b", "a: x\u0085y: 1", "a: >#\n  b\n", "a: |#c\n  b\n",
-)
-SAME = ("", "a: 1", "- [a, {b: c}]\n- 'd: e'\n- \"f\\n\"\n- |\n  g\n   h\n", "&a [1]: *a", "a: {b: &c [d, e], f: *c}\n---\n- é\n", "# only a comment\n", "a:\n- b\n-\n")
 
 
-def tree(node: yaml.Node) -> Any:
-    """A node, with its place and all below it."""
-    mark = node.start_mark.line, node.start_mark.column
-    if isinstance(node, yaml.ScalarNode):
-        return node.tag, mark, node.value
-    pairs = [one for pair in node.value for one in pair] if isinstance(node, yaml.MappingNode) else node.value
-    return node.tag, mark, [tree(one) for one in pairs]
+def nodes(text: str) -> list[Value]:
+    """The documents of a text."""
+    return [Value(PATH, node) for node in yaml_files.nodes_of(PATH, text)]
 
 
-def found(text: str) -> list[Any] | str:
-    """What is read of a text, or the error."""
-    try:
-        return [tree(node) for node in yaml_files.checked_nodes.__wrapped__(PATH, text)]
-    except BadFile as error:
-        return str(error)
+class Places(unittest.TestCase):
+    """Values by hand: each scalar is the text that was written, and knows its line and column."""
 
+    def test_scalars(self) -> None:
+        found, = nodes("a: on\nb: [3.10, 'no', ~]\nc:\n  - |\n    two\n    lines\n  - \"\\xe9\"\n  -\n")
+        texts = [(one.node.value, one.line, one.column) for name, value in found.entries().items()
+                 for one in (value.elements() if value.is_list() else [value])]
+        self.assertEqual(texts, [("on", 1, 4), ("3.10", 2, 5), ("no", 2, 11), ("~", 2, 17), ("two\nlines\n", 4, 5), ("é", 7, 5), ("", 8, 4)])
 
-def found_in_python(text: str) -> list[Any] | str:
-    """The same without libyaml."""
-    with patch.object(yaml_files, "quick_nodes", lambda text: None):
-        return found(text)
+    def test_documents_and_aliases(self) -> None:
+        one, other = nodes("a: &it {b: c}\nd: *it\n---\n- é\n")
+        self.assertEqual([(value.entries()["b"].text(), value.entries()["b"].line) for value in one.entries().values()], [("c", 1), ("c", 1)])
+        self.assertEqual([(value.text(), value.line, value.column) for value in other.elements()], [("é", 4, 3)])
 
-
-class SameNodes(unittest.TestCase):
-    def test_files(self) -> None:
-        """Each YAML file of the repository is read by libyaml, or has a sign that it reads otherwise."""
-        files = [path for folder in ("suites", "examples", "docs", "tests", "python") for path in sorted((TOP / folder).rglob("*.yaml"))]
-        self.assertGreaterEqual(len(files), LEAST_FILES)
-        quick = 0
-        for path in files:
-            text = path.read_text(encoding="utf-8")
-            with self.subTest(path.name):
-                self.assertEqual(found(text), found_in_python(text))
-                quick += yaml_files.quick_nodes(text) is not None
-        self.assertGreaterEqual(2 * quick, len(files))
-
-    def test_by_hand(self) -> None:
-        for text in (*SAME, *READ_OTHERWISE):
-            with self.subTest(text):
-                self.assertEqual(found(text), found_in_python(text))
-
-    def test_quick(self) -> None:
-        for text in SAME:
-            with self.subTest(text):
-                self.assertIsNotNone(yaml_files.quick_nodes(text))
-
-    def test_without_libyaml(self) -> None:
-        with patch.object(yaml, "__with_libyaml__", False):
-            self.assertIsNone(yaml_files.quick_nodes("a: 1"))
-            self.assertEqual(found("a: 1"), found_in_python("a: 1"))
+    def test_faults(self) -> None:
+        for text, wanted in (("a: b: c", "1:5: not YAML: mapping values are not allowed in this context"), ("[a, b", "2:1: not YAML: did not find expected ',' or ']'"),
+                             ("a:\n\tb", "2:1: not YAML: found character that cannot start any token"), ("*b", "1:1: not YAML: found undefined alias 'b'"),
+                             ("é: \x07", "1:4: not YAML: control characters are not allowed"), ("a: !!int 3", "1:4: the tag tag:yaml.org,2002:int is not allowed"),
+                             ("&a [b, [*a]]", "1:1: this holds itself by an alias"), ("'", "1:2: not YAML: found unexpected end of stream")):
+            with self.subTest(text), self.assertRaises(BadFile) as found:
+                nodes(text)
+            self.assertEqual(str(found.exception), f"file.yaml:{wanted}")
 
     def test_depth(self) -> None:
-        """A file that is too deep is refused by both, without a deep stack."""
+        """What is too deep is refused, without a deep stack."""
         for text in ("[" * 100_000, "- " * 100_000, "{a: " * 100_000):
-            error = found(text)
-            self.assertIsInstance(error, str)
-            self.assertIn("more than 64 deep", str(error))
+            with self.assertRaisesRegex(BadFile, "it is more than 64 deep"):
+                nodes(text)
+        self.assertEqual(len(nodes("[" * 64 + "]" * 64)), 1)
 
 
 if __name__ == "__main__":

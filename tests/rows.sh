@@ -21,7 +21,7 @@ mkdir "$made/cases" "$made/answers" || exit 1
 [ -n "$ROWS" ] || { ROWS=$made/rows && python3 ../plain/make_rows.py "$ROWS" ${SEED:-} >/dev/null; } || exit 1
 ROWS=$(realpath "$ROWS") || exit 1
 export ROWS
-modules=(test_decode test_parts test_modes test_disk test_blocks test_journal test_onboard test_kernel test_track test_guard)
+modules=(test_decode test_parts test_onboard test_kernel test_track test_guard)
 status=0
 
 # rows NAME FLOOR: the rows of a module
@@ -33,19 +33,14 @@ rows() {
     [ -n "$SEED" ] && [ "${count:-0}" -gt 0 ] || [ "${count:-0}" -ge "$2" ] || { echo "$1: fewer rows than $2"; status=1; }
 }
 
-python3 long_questions.py || status=1
 for name in "${modules[@]}"; do
     python3 "$name.py" --ask "$made/cases" || exit 1
 done
 ./tried "$made/cases" "$made/answers" "$made/program" || exit 1
 rows test_decode 293
-rows test_parts 2758
-rows test_modes 2613
-rows test_disk 502
-rows test_blocks 741
-rows test_journal 1100
+rows test_parts 2762
 rows test_onboard 34580
-rows test_kernel 711
+rows test_kernel 713
 rows test_track 86
 rows test_guard 181
 python3 ../hostile/refused_calls.py "$made/program" || status=1

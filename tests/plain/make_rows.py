@@ -10,8 +10,6 @@ to be covered isn't, or a hand-written row wants another answer than the plain u
 import sys
 from pathlib import Path
 
-import blocks
-import limit_rows
 import onboard_lives
 import part_rows
 import random_lists
@@ -24,10 +22,8 @@ def all_rows(seed):
     text = {path.name: path.read_text() for path in BY_HAND.glob("*.row")}
     lists, faults = random_lists.make_rows(seed)
     text["test_kernel.row"] += "\n" + lists
-    text["test_modes.row"] += limit_rows.make_rows(seed)
     text["test_parts.row"] += part_rows.make_rows()
     text["test_onboard.row"], differences = onboard_lives.make_rows(text["test_onboard.row"], seed)
-    text["test_blocks.row"] = blocks.make_rows()
     return text, [*faults, *differences]
 
 

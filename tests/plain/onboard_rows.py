@@ -24,7 +24,7 @@ def pairs_text(pairs):
 def record_text(b, r):
     """A line of the listing."""
     kind, payload = blocks.payload(r["event"], b["format"])
-    text = (f"| block {b['number']} event {r['number']} {KINDS[kind]} {MODE_NAMES[r['mode']]} {blocks.MODES_LEVEL[r['level']]} "
+    text = (f"| block {b['number']} event {r['number']} {KINDS[kind]} {MODE_NAMES[r['mode']]} {blocks.LEVELS[r['level']]} "
             f"{BRAKES[r['brake']]} {r['ind']} {payload.hex() or '-'} ")
     return text + (f"at {r['estimate']} unc {r['uncertainty']} limit {r['limit']} " if b["format"] > 1 else "")
 

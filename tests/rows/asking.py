@@ -6,9 +6,9 @@ answer, and a line for several (tests/plain/row_lines.py).
 
 Each module `test_..` takes these arguments:
 
-    test_disk.py                  ask the program, and compare its answers with the wanted ones
-    test_disk.py --ask FOLDER     only write the questions into FOLDER, as cases of the program
-    test_disk.py --compare FOLDER    compare the answers to these cases in FOLDER
+    test_parts.py                     ask the program, and compare its answers with the wanted ones
+    test_parts.py --ask FOLDER        only write the questions into FOLDER, as cases of the program
+    test_parts.py --compare FOLDER    compare the answers to these cases in FOLDER
 
 The rows are those of the folder that the variable ROWS names, which `tests/plain/make_rows.py` makes; without it, only
 the hand-written ones in this folder.

@@ -2,8 +2,9 @@
 """Runs test_parts.row over the program of rows (asking.py has the words).
 
 A row's first word names the part that it is for; `test_parts_track.py`, `test_parts_packets.py` and
-`test_parts_groups.py` list what each part is asked. A row goes on where the one before of its part ended; `new` begins
-anew. Questions and replies, in numbers, are described in program/src/test_parts.rt.txt. The rows of
+`test_parts_groups.py` list what each part is asked; `file 100 3 1 5` fills a disk of 3 sectors over an honest file whose calls
+do 100 bytes at most, writes byte 5 to sector 1, syncs, and reads it. A row goes on where the one before of its part ended; `new`
+begins anew. Questions and replies, in numbers, are described in program/src/test_parts.rt.txt. The rows of
 tests/rows were worked out by hand from SUBSET-026 and this project's profile; tests/plain/make_rows.py adds those of
 part_rows.py."""
 import sys
@@ -24,7 +25,13 @@ PARTS = {
     "balises": (7, test_parts_groups.balises, test_parts_groups.balises_answer),
     "speed": (8, test_parts_track.speed, test_parts_track.speed_answer),
     "telegram": (9, test_parts_groups.telegram, test_parts_groups.telegram_answer),
+    "file": (10, lambda words: list(map(int, words)), lambda _words, reply: file_answer(reply)),
 }
+
+
+def file_answer(reply):
+    is_done, byte = reply.take(2)
+    return str(byte) if is_done else test_parts_track.REFUSED
 
 
 def question(row):

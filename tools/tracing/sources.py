@@ -17,11 +17,10 @@ LAW = re.compile(r"^/// A law: (.*(?:\n/// .*)*)\n(?:#.*\n)*pub fn (\w+)", re.M)
 ROWS = {
     "": ["tests/rows/test_kernel.row"],
     "programs": ["tests/programs"],
-    **{name: [f"tests/rows/test_{name}.row"] for name in ("parts", "decode", "modes", "journal", "disk", "track", "guard")},
+    **{name: [f"tests/rows/test_{name}.row"] for name in ("parts", "decode", "track", "guard")},
     "onboard": ["tests/rows/test_onboard.row", "tests/plain/onboard_lives.py"],
-    "blocks": ["tests/plain/blocks.py"],
 }
-TITLE = re.compile(r"^(?:row |case |# | *rows\.comment\(f?\"| *made\.say\(\"# )?(.*?)(?:\"\))?$")
+TITLE = re.compile(r"^(?:row |case |# | *made\.say\(f?\"# )?(.*?)(?:\"\))?$")
 
 
 def tool(name):

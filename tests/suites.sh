@@ -1,7 +1,7 @@
 #!/bin/bash
 # Tests the corpus of test cases in suites/ on the programs that the full check built: each expected result comes, each section and transition
-# has a case or a reason, untrue cases fail, lint finds weak tracks, the commands of the
-# pages for test laboratories print what the pages say, and a search over random lives finds no fault.
+# has a case or a reason, lint finds weak tracks, the commands of the pages for test laboratories print what the pages say, and a search over
+# random lives finds no fault.
 #
 #     tests/suites.sh [ETCS_LAB ETCS [PREFIX]]    on other programs, and with the unit's library below PREFIX
 . "$(dirname "$(readlink -f -- "$0")")/both_programs" || exit 1
@@ -22,10 +22,7 @@ fi
 echo "suites: ${count:-no} results passed"
 covered=$(./lab coverage suites 2>&1) || { status=1; echo "$covered"; }
 tail -n 1 <<< "$covered"
-/usr/bin/python3 tests/suites/limits.py "$etcs" "$lab" || status=1
-/usr/bin/python3 tests/suites/control.py "$etcs" "$lab" || status=1
 /usr/bin/python3 tests/suites/lint_rows.py "$etcs" "$lab" || status=1
-/usr/bin/python3 tests/suites/planted.py --texts || status=1
 ETCS=$etcs ETCS_LAB=$lab /usr/bin/python3 tests/documents.py start/tests howto/write-test-cases howto/coverage howto/telegrams howto/lint howto/play || status=1
 /usr/bin/python3 tests/suites/search.py "$etcs" "$lab" || status=1
 exit $status

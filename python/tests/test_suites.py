@@ -107,6 +107,31 @@ steps: [{use: both}, {drive: 150.5 m at 36.5 km/h}, {confirm: running_number}, f
                 ("steps: [", "2:1: not YAML")):
             self.assertTrue(self.error(text).startswith(message), f"{text}\n{self.error(text)}\n{message}")
 
+    def test_what_is_at_a_limit_and_one_beyond(self) -> None:
+        train = {"length": "77 m", "maximum": "88 km/h", "deceleration": "99 cm/s2", "reaction": "66 ms", "category": "5"}
+
+        def train_data(name: str, value: str) -> str:
+            return "steps: [{enter_train_data: {" + ", ".join(f"{one}: {text}" for one, text in {**train, name: value}.items()) + "}}]"
+
+        for at, beyond in (
+                ("steps: [{drive: 10 km at 1 km/h}]", "steps: [{drive: 1000001 cm at 1 km/h}]"),
+                ("steps: [{drive: -100 m at 1 km/h}]", "steps: [{drive: -10001 cm at 1 km/h}]"),
+                ("steps: [{drive: 7 cm at 600 km/h}]", "steps: [{drive: 7 cm at 600001 m/h}]"),
+                ("steps: [{clock: 1099511627775 ms}]", "steps: [{clock: 1099511627776 ms}]"),
+                ("steps: [{enter_running_number: 99999999}]", "steps: [{enter_running_number: 100000000}]"),
+                ("steps: [{choose_level: 1}]", "steps: [{choose_level: 2}]"),
+                ("steps: [{enter_identity: ABCDEFGHIJKLMNOP}]", "steps: [{enter_identity: ABCDEFGHIJKLMNOPQ}]"),
+                ("groups: [{at: 1000 km, balises: ['90']}]\nsteps: []", "groups: [{at: 100000001 cm, balises: ['90']}]\nsteps: []"),
+                ("groups: [{at: 1 cm, balises: ['90']}]\nsteps: []", "groups: [{at: 0 cm, balises: ['90']}]\nsteps: []"),
+                ("groups: [{at: 1 m, spacing: 12 m, balises: ['90', '91']}]\nsteps: []",
+                 "groups: [{at: 1 m, spacing: 1201 cm, balises: ['90', '91']}]\nsteps: []"),
+                (f"steps: [{{telegram: {'90' * 104}}}]", f"steps: [{{telegram: {'90' * 105}}}]"),
+                *((train_data(name, at), train_data(name, beyond)) for name, at, beyond in (
+                    ("length", "4095 m", "409501 cm"), ("length", "1 cm", "0 cm"), ("maximum", "600 km/h", "600001 m/h"), ("maximum", "1 m/h", "0 m/h"),
+                    ("deceleration", "3 m/s2", "301 cm/s2"), ("deceleration", "1 cm/s2", "0 cm/s2"), ("reaction", "10 s", "10001 ms"), ("category", "15", "16")))):
+            scenarios.read(self.write(at))
+            self.assertRegex(self.error(beyond), r"^\d+:\d+: ", beyond)
+
     def test_telegrams_are_compared(self) -> None:
         header = "telegram Q_UPDOWN=1 M_VERSION=16 Q_MEDIA=0 N_PIG=0 N_TOTAL=0 M_DUP=0 M_MCOUNT=255 NID_C=1 NID_BG=2 Q_LINK=1"
         packet = "packet 65 Q_DIR=2 L_PACKET=71 Q_SCALE=1 NID_TSR=7 D_TSR=100 L_TSR=50 Q_FRONT=1 V_TSR="

@@ -12,7 +12,7 @@ from pathlib import Path
 sys.path.insert(0, str(Path(__file__).resolve().parents[2] / "python"))
 from gaknifur.units import _header  # noqa: E402
 
-LEAST = 236
+LEAST = 227
 PROGRAM = """#include <stddef.h>
 #include <stdio.h>
 #include "etcs_guard.h"

@@ -48,7 +48,7 @@ ENUMS = {
     "guard_policy": ({}, None, ()), "demanded": ({}, None, ()), "finding": ({}, None, ()), "sureness": ({}, None, ()),
 }
 FIELDS = ("record_field", "kept_field")
-LEAST = 33
+LEAST = 31
 
 
 def words_of(page, section, member):

@@ -14,7 +14,7 @@ sys.path[:0] = [str(TOP / "tests")]
 from compared import Compared  # noqa: E402
 
 NULL_POINTER, WITHOUT_POINTER = 253, ("etcs_abi", "etcs_build_proof", "etcs_status_classify", "etcs_decode", "etcs_packet_count")  # (and each .._name: names.py)
-SECTOR, SLOTS, LEAST = 512, 4, 43
+SECTOR, SLOTS, LEAST = 512, 4, 41
 
 
 def life(library, same):

@@ -4,10 +4,10 @@ import io
 import json
 import unittest
 from pathlib import Path
-from typing import Any
 
 import openpyxl
 import pandas as pd
+from openpyxl.utils.escape import unescape
 
 from gaknifur import files
 from gaknifur.evidence import timeline, times
@@ -15,6 +15,7 @@ from gaknifur.evidence.times import Times
 from gaknifur.files import Out
 from gaknifur.journal import tables, workbook
 from gaknifur.journal.reading import Journal
+from gaknifur.program import Failed
 
 from .samples import InFolder, action, journal, reading, record
 
@@ -74,33 +75,28 @@ class Workbooks(Room):
         self.assertEqual([cell.value for row in book["notes"].iter_rows() for cell in row], ["=note", "sha256 ab"])
         self.assertFalse([row for row in book["notes"].iter_rows() if row[0].data_type == "f"])
 
-    def test_cells_are_those_that_openpyxl_writes(self) -> None:
-        texts = [*BAD, "", " a ", "<b>&amp;", "a\r\nb", "#N/A", "TRUE", "1e3", "'7", "x" * 40_000, None]
+    def test_each_cell(self) -> None:
+        """Cells read back: texts are texts in the format that keeps them so, numbers and truth values are those of the table."""
+        texts = [*BAD, " a ", "<b>&amp;", "a\r\nb", "#N/A", "TRUE", "1e3", "'7", "a\x1b", None]
         count = workbook.AT_ONCE + len(texts)
-        whole = pd.array([None, 0, -2**40, 7] * count, "Int64")[:count]
-        table = pd.DataFrame({"text": (texts * count)[:count], "whole": whole, "real": pd.array([0.1, 36.0, None] * count, "Float64")[:count],
-                              "has": pd.array([True, False, None] * count, "boolean")[:count], "is": [True] * count, "none": [None] * count,
-                              "big": pd.array([2**63] * count, "UInt64")})
-        book = openpyxl.Workbook()
-        for at, row in enumerate([list(table), *table.to_numpy(object).tolist()], 1):
-            for column, value in enumerate(row, 1):
-                cell = book.active.cell(at, column, None if value is pd.NA else value)
-                if isinstance(value, str):
-                    cell.data_type, cell.quotePrefix = "s", value[:1] in ("=", "+", "-", "@", "\t", "\r") and value != ""
-        book.save(self.room / "wanted.xlsx")
+        table = pd.DataFrame({"text": (texts * count)[:count], "whole": pd.array([None, 0, -2**40, 7] * count, "Int64")[:count],
+                              "real": pd.array([0.1, 36.0, None] * count, "Float64")[:count],
+                              "has": pd.array([True, False, None] * count, "boolean")[:count], "is": [True] * count, "none": [None] * count})
         (self.room / "got.xlsx").write_bytes(workbook.workbook(table, []))
-        wanted, got = (self.cells(self.room / name) for name in ("wanted.xlsx", "got.xlsx"))
-        self.assertEqual(len(got), 7 + 4 * count - sum(map(table.isna().sum().get, ("text", "whole", "real", "has"))) + 2 * count)
-        self.assertEqual([(place, got.get(place), value) for place, value in wanted.items() if got.get(place) != value], [])
+        head, *rows = openpyxl.load_workbook(self.room / "got.xlsx")["events"].iter_rows()
+        self.assertEqual([cell.value for cell in head], list(table))
+        self.assertEqual(len(rows), count)
+        for wanted, row in zip(table.itertuples(index=False, name=None), rows):
+            values = [None if pd.isna(one) else one for one in wanted]
+            self.assertEqual([unescape(cell.value) if cell.data_type == "s" else cell.value for cell in row], values)
+            self.assertEqual([cell.data_type for cell in row if cell.value is not None], ["s" if isinstance(one, str) else "b" if isinstance(one, bool) else "n" for one in values if one is not None])
+            self.assertEqual({cell.number_format for cell in row if cell.data_type == "s"} - {"@"}, set())
 
-    def cells(self, path: Path) -> dict[str, Any]:
-        """The cells of a workbook's first sheet that aren't empty: each value, type and style."""
-        return {cell.coordinate: (cell.value, cell.data_type, bool(cell.quotePrefix)) for row in openpyxl.load_workbook(path).worksheets[0].iter_rows()
-                for cell in row if cell.value is not None}
-
-    def test_a_control_character_is_refused(self) -> None:
-        with self.assertRaises(openpyxl.utils.exceptions.IllegalCharacterError):
-            workbook.workbook(pd.DataFrame({"text": ["a\x1b"]}), [])
+    def test_what_a_cell_or_a_sheet_cannot_hold(self) -> None:
+        (self.room / "got.xlsx").write_bytes(workbook.workbook(pd.DataFrame({"text": ["x" * 40_000]}), []))
+        self.assertEqual(openpyxl.load_workbook(self.room / "got.xlsx")["events"]["A2"].value, "x" * 32_767)
+        with self.assertRaisesRegex(Failed, "a workbook has at most 1,048,575 rows, and the table has 1,048,576; name a .csv file"):
+            workbook.workbook(pd.DataFrame({"whole": range(1 << 20)}), [])
 
 
 if __name__ == "__main__":

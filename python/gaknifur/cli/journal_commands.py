@@ -68,8 +68,8 @@ def write_table(given: SimpleNamespace, progress: Progress) -> int:
     if suffix not in ("", ".csv", ".xlsx"):
         raise Failed(f"{given.out}: the name has to end in .csv or .xlsx", WRONG_WORDS)
     is_book = suffix == ".xlsx"
-    if is_book and not find_spec("openpyxl"):
-        raise Failed("openpyxl is missing; tools/python installs it by Debian's packages", DEVICE)
+    if is_book and not find_spec("xlsxwriter"):
+        raise Failed("xlsxwriter is missing; tools/python installs it by Debian's packages", DEVICE)
     out = out_of(given, given.image)
     journal = read(given.image, other_blocks=given.other_blocks, replay=True, why=not given.damaged, progress=progress,
                    strays=given.damaged)

@@ -1,6 +1,6 @@
 #!/bin/bash
 # Tests the package python/gaknifur and its script ./lab on the programs that the full check built: types, the package's own tests,
-# exit statuses, the page of all commands, tables and database compared with plain readers, reports, sealed and redacted copies, releases,
+# exit statuses, the page of all commands, tables and database compared with plain readers, reports, anonymous ones, sealed copies, releases,
 # and cases of journals.
 #
 #     tests/lab_package.sh [ETCS_LAB ETCS [IMAGES [SEED]]]    on other programs, with more or other images
@@ -15,7 +15,7 @@ status=0
 "$python" tests/lab_package/table_rows.py "$lab" "${@:3}" || status=1
 "$python" tests/lab_package/report_rows.py "$etcs" "$lab" || status=1
 "$python" tests/lab_package/seal_rows.py "$lab" || status=1
-"$python" tests/lab_package/redact_rows.py "$etcs" "$lab" || status=1
+"$python" tests/lab_package/anonymous_rows.py "$etcs" "$lab" || status=1
 "$python" tests/lab_package/verdict_rows.py "$lab" || status=1
 "$python" tests/lab_package/case_rows.py "$etcs" "$lab" || status=1
 "$python" tests/lab_package/status_rows.py "$etcs" "$lab" || status=1

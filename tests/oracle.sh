@@ -1,7 +1,7 @@
 #!/bin/bash
 # Tests other units and searches (docs/howto/oracle.md, docs/howto/searching.md): a unit in C, one in Python and `./lab serve` replay the journals of
 # the examples; all of suites/ runs against the unit in C; each unit that is wrong on purpose is found; wrong properties are found and shrunk, and the
-# safety laws hold; tshark shows telegrams; and the commands of these pages and of docs/howto/wireshark.md print what the pages say.
+# safety laws hold; and the commands of these pages print what the pages say.
 #
 #     tests/oracle.sh [ETCS_LAB ETCS [PREFIX [all]]]    on other programs, and on the library below PREFIX; `all`: all wrong properties
 . "$(dirname "$(readlink -f -- "$0")")/both_programs" || exit 1
@@ -27,7 +27,6 @@ output=$(./lab test suites --against "$made/unit" 2>&1) || { echo "$output"; sta
 count=$(sed -n 's/^\([0-9]*\) passed in .*/\1/p' <<< "$output")
 echo "suites against unit.c: ${count:-no} results passed"
 [ "${count:-0}" -ge $least ] || status=1
-"$python" tests/oracle/dissector_rows.py || status=1
 "$python" tests/oracle/search_rows.py "$etcs" "$lab" "$made/unit" "${@:4}" || status=1
-ETCS=$etcs ETCS_LAB=$lab "$python" tests/documents.py howto/oracle howto/searching howto/wireshark || status=1
+ETCS=$etcs ETCS_LAB=$lab "$python" tests/documents.py howto/oracle howto/searching || status=1
 exit $status

@@ -219,9 +219,9 @@ class Words(Room):
                     self.stays([*line_of(words, command, one, path), *forces], path)
 
     def test_with_force_another_s_file_is_replaced(self) -> None:
-        path = self.file("mine.lua", b"-- my own\n")
-        self.assertEqual(main(["dissector", str(path), "--force"]), 0)
-        self.assertTrue(path.read_bytes().startswith(b"-- Made by ./lab dissector"))
+        path, scenario = self.file("mine.json", b"my own"), self.file("scenario.yaml", b"steps: [clock: 5 s]\n")
+        self.assertEqual(main(["build", str(scenario), str(path), "--force"]), 0)
+        self.assertTrue(path.read_bytes().startswith(b"{"))
 
     def test_a_folder_for_what_is_found_is_new(self) -> None:
         (self.room / "kept").mkdir()

@@ -43,8 +43,6 @@ ROWS = """\
 0 etcs_lab lint plain.json
 0 lab check image
 0 lab verify sealed
-0 lab redact sealed copy
-0 lab verify copy
 0 lab test good
 0 lab case image --event 8
 0 lab why image 6
@@ -59,8 +57,6 @@ ROWS = """\
 1 lab report --life 9 image out.html
 1 lab test --section 3.99 good
 1 lab test hollow
-1 lab results plain.json out.html
-1 lab redact hollow copy2
 1 lab case image --event 99
 1 lab coverage hollow
 1 lab lint hollow
@@ -71,7 +67,7 @@ ROWS = """\
 2 lab nosuch
 2 lab report image
 2 lab why image x
-2 lab verify sealed --key sealed
+2 lab table image --anonymous --all
 2 lab lint --without nosuch plain.json
 2 lab search --examples 0 search.yaml
 2 tools/settle
@@ -97,19 +93,15 @@ ROWS = """\
 4 lab lint twice.json
 4 lab check altered
 4 lab table altered t.csv
-4 lab timeline altered t.jsonl
 4 lab database altered t.db
 4 lab report altered t.html
 4 lab seal altered t.bag
-4 lab capture altered t.pcap
-4 lab redact altered copy3
 4 lab case altered --event 5
 4 lab why image
 4 lab why image 99
 4 lab verify broken
 4 tools/verify sealed
 4 lab test fails --junitxml=fails.xml
-4 lab results fails.xml results.html
 4 lab campaign fails fails.db
 4 lab coverage good
 4 lab search search.yaml --records events.jsonl

@@ -7,7 +7,6 @@ each says the sentence that follows from the plain replay, with status 4. tests/
 """
 import contextlib
 import io
-import json
 import itertools
 import os
 import re
@@ -46,11 +45,9 @@ def altered(rows, room):
     data = dict(examples())["example trip"]
     rows.same("the byte of the brake", data[BRAKE_OF_7], 0)
     image.write_bytes(patched(data, BRAKE_OF_7, b"\1"))
-    for words, out in ((["timeline"], "a.jsonl"), (["capture"], "a.pcap"), (["report"], "a.html"), (["database"], "a.db"), (["table"], "a.csv"), (["seal"], "a.bag")):
+    for words, out in ((["report"], "a.html"), (["database"], "a.db"), (["table"], "a.csv"), (["seal"], "a.bag")):
         _, said, status = run(*words, image, room / out)
         rows.same(f"{words[0]} of an altered journal", (status, DIFFERS in said), (4, True))
-    lines = [json.loads(line) for line in (room / "a.jsonl").open()]
-    rows.same("its sign in a timeline", [line["event"] for line in lines if line["message"].endswith("; the replay differs in brake")], [7])
     rows.unless(DIFFERS in (room / "a.html").read_text(), "no sign in the report")
 
 
@@ -95,7 +92,7 @@ def honest(rows, room):
     image.write_bytes(dict(examples())["example trip"])
     whose = "unit: 17\nvehicle: 402 001\n"
     (room / "honest.identity").write_text(whose)
-    for words, out in ((["timeline"], "h.jsonl"), (["capture"], "h.pcap"), (["report"], "h.html"), (["database"], "h.db"), (["seal"], "h.bag"), (["table"], "h.xlsx")):
+    for words, out in ((["report"], "h.html"), (["database"], "h.db"), (["seal"], "h.bag"), (["table"], "h.xlsx")):
         _, said, status = run(*words, image, room / out)
         rows.same(f"{words[0]} of an honest journal", (status, said), (0, ""))
     rows.same("why of an honest journal", (run("why", image)[0].splitlines()[-6:], run("why", image, 6)[::2]), (BRAKED, ("""event 6: brake none, limit 58.714 km/h, speed 30 km/h
@@ -120,7 +117,7 @@ def honest(rows, room):
     rows.unless(f"read by {program.reader()}" in notes, f"the workbook doesn't say by what it was read: {notes}")
 
 
-COMMANDS = ("check image", "table image out.csv", "timeline image out.jsonl", "database image out.db", "why image", "capture image out.pcap",
+COMMANDS = ("check image", "table image out.csv", "database image out.db", "why image",
             "report image out.html", "seal image bag", "verify bag")
 """The commands that take altered images in turn; the last two take the same one."""
 COUNT, LEAST = 44, 10
@@ -159,8 +156,6 @@ def every_command(rows, room, count, is_all):
         words += [next(turns).split()] if not is_all and words[0][0] == "seal" else []
         for name, *files in words:
             _, said, status = run(name, *(at / file for file in files))
-            if name == "capture" and "the journal has no telegram" in said:
-                continue  # (the altered byte took the only one)
             rows.same(f"{name} of altered image {number}", (status, sentence in said), (4, True))
     rows.unless(differ >= min(LEAST, count // 8), f"a replay finds only {differ} of {len(some)} altered images")
 

@@ -93,57 +93,6 @@ LAYOUTS = {
 }
 WITH_TRAILING_BITS = (44,)
 
-# What single numbers mean (SUBSET-026, 7.5.1), as far as it is sure: NAME.. NUMBER=TEXT; ..
-MEANINGS = {name: {int(one.split("=")[0]): one.split("=")[1] for one in texts.split("; ")} for names, texts in {
-    "Q_UPDOWN": "0=down link; 1=up link",
-    "M_VERSION": "16=version 1.0",
-    "Q_MEDIA": "0=balise; 1=loop",
-    "M_DUP": "0=no duplicate; 1=duplicate of the next balise; 2=duplicate of the previous balise",
-    "M_MCOUNT": "254=fits no message of the group; 255=fits each message of the group",
-    "Q_LINK": "0=unlinked; 1=linked",
-    "Q_DIR": "0=reverse; 1=nominal; 2=both directions",
-    "Q_SCALE": "0=10 cm; 1=1 m; 2=10 m",
-    "Q_NEWCOUNTRY": "0=the same country or region; 1=another country or region",
-    "Q_LINKORIENTATION": "0=passed in reverse direction; 1=passed in nominal direction",
-    "Q_LINKREACTION M_NVCONTACT": "0=train trip; 1=service brake; 2=no reaction",
-    "Q_SECTIONTIMER Q_ENDTIMER Q_DANGERPOINT Q_OVERLAP": "0=nothing follows; 1=values follow",
-    "T_LOA T_SECTIONTIMER T_ENDTIMER T_OL T_TIMEOUTRQST": "1023=without limit",
-    "T_NVOVTRP T_NVCONTACT T_MAR T_CYCRQST T_CYCLOC": "255=without limit",
-    "D_NVSTFF L_MAMODE D_REVERSE D_CYCLOC": "32767=without limit",
-    "V_RELEASEDP V_RELEASEOL": "126=worked out on board; 127=the national value",
-    "V_MAMODE": "127=the national value",
-    "Q_GDIR": "0=downhill; 1=uphill",
-    "G_A": "255=the profile ends",
-    "V_STATIC": "127=the profile ends",
-    "Q_FRONT": "0=delayed by the train's length; 1=not delayed by the train's length",
-    "D_VALIDNV D_LEVELTR": "32767=now",
-    "M_LEVELTR": "0=level 0; 1=level STM; 2=level 1; 3=level 2; 4=level 3",
-    "M_LEVELTEXTDISPLAY": "0=level 0; 1=level STM; 2=level 1; 3=level 2; 4=level 3; 5=not limited by the level",
-    "M_MODETEXTDISPLAY": "0=Full Supervision; 1=On Sight; 2=Staff Responsible; 15=not limited by the mode",
-    "D_TEXTDISPLAY L_TEXTDISPLAY": "32767=not limited by a place",
-    "T_TEXTDISPLAY": "1023=not limited by a time",
-    "NID_TSR": "255=not revocable",
-    "M_MAMODE": "0=On Sight; 1=Shunting",
-    "Q_NVSRBKTRG M_NVDERUN Q_NVDRIVER_ADHES": "0=no; 1=yes",
-    "Q_NVEMRRLS": "0=released at standstill; 1=released within the limit",
-    "Q_RBC Q_RIU": "0=end the session; 1=begin a session",
-    "Q_SLEEPSESSION": "0=a sleeping unit ignores it; 1=a sleeping unit carries it out",
-    "Q_TRACKINIT": "0=a profile follows; 1=the initial state comes back",
-    "Q_LGTLOC": "0=minimum safe rear end; 1=maximum safe front end",
-    "M_LOC": "0=now; 1=at each group; 2=at no group",
-    "M_TRACKCOND": "0=non stopping area; 1=tunnel stopping area; 2=sound horn; 3=powerless section, lower pantograph; 4=radio hole; "
-                   "5=air tightness; 6=switch off regenerative brake; 7=switch off eddy current brake; 8=switch off magnetic shoe brake; "
-                   "9=powerless section, switch off main power switch",
-    "Q_SUITABILITY": "0=loading gauge; 1=axle load; 2=traction system",
-    "M_ADHESION": "0=slippery rail; 1=not slippery rail",
-    "Q_TEXTCLASS": "0=auxiliary; 1=important",
-    "Q_TEXTDISPLAY": "0=by one of the conditions; 1=by all conditions",
-    "Q_TEXTCONFIRM": "0=not to be confirmed; 1=to be confirmed; 2=to be confirmed, else the service brake",
-    "Q_TEXT": "0=Level crossing not protected; 1=Acknowledgement",
-    "Q_MPOSITION": "0=counted against the group's direction; 1=counted in the group's direction",
-    "Q_ASPECT Q_SRSTOP": "0=stop; 1=go on",
-}.items() for name in names.split()}
-
 COUNTED = {"L_PACKET", "L_TEXT", "M_VERSION"}
 OTHER_UNITS = {"G_A": "per mille", "G_TSR": "per mille", "M_AXLELOAD": "0.5 t", "X_TEXT": "character", "Q_LOCACC": "m"}
 

@@ -186,6 +186,7 @@ HELP = help_option("-h", "--help")
 VERSION = click.Option(["--version"], is_flag=True, is_eager=True, expose_value=False, callback=show_version, help="print version and commit")
 IMAGE = Argument("image", "IMAGE", "a journal image")
 ALL = option("--all other_blocks", "include readable blocks outside the journal; column `source` marks them")
+ANONYMOUS = option("--anonymous", "leave out the driver's identity, the running number, and name, SHA-256 and identity of the image")
 FORCE = option("--force", "overwrite an existing file, but never a journal image")
 JSON = option("--json", "print JSON")
 JSON_LINES = option("--json", "print one JSON object per line")
@@ -199,11 +200,7 @@ JOURNAL = [
             "Column names end in their units. Unknown values are empty.", "table image table.xlsx",
             IMAGE, Argument("out", "[OUT.csv|OUT.xlsx]", "output file; .xlsx makes a workbook (default: CSV on standard output)", required=False),
             ALL, *TIMES, option("--damaged", "print instead the records of damaged or misplaced blocks, each with its slot and byte; nothing else "
-                                "confirms them"), FORCE),
-    Command("timeline", "journal", "cli.journal_commands:write_timeline", "Write the events for other programs, as CSV for Timesketch or as JSON Lines",
-            "OUT.csv has the events with a time of day, which marks next to the journal give; OUT.jsonl has all events.",
-            "timeline image timeline.jsonl",
-            IMAGE, Argument("out", "[OUT.csv|OUT.jsonl]", "output file (default: JSON Lines on standard output)", required=False), *TIMES, FORCE),
+                                "confirms them"), ANONYMOUS, FORCE),
     Command("database", "journal", "cli.journal_commands:write_database", "Add images to an SQLite database",
             "The database is created if it does not exist. An image that it already contains (by SHA-256) stays as it is.",
             "database image journals.db",
@@ -213,7 +210,7 @@ JOURNAL = [
             IMAGE, Argument("out", "OUT.html", "the page to make"),
             option("--from first", "start at this event (120), place (300m) or moment (20.5s)", "WHERE"),
             option("--to last", "end at this event, place or moment", "WHERE"), option("--life", "report only this power cycle (life)", "N", int),
-            FORCE, *TIMES, option("--newest-first", "list the lives from the last to the first")),
+            FORCE, *TIMES, option("--newest-first", "list the lives from the last to the first"), ANONYMOUS),
     Command("check", "journal", "cli.journal_commands:check_image", "Examine and replay an image, and list what is implausible",
             "Prints what `etcs_lab check` prints, and then implausible values, such as a movement that the recorded speeds don't explain. Status 4: "
             "something is lost, damaged, contradictory, different or implausible, as all commands about the image report it.", "check image",
@@ -228,12 +225,7 @@ JOURNAL = [
     Command("why", "journal", "cli.journal_commands:explain", "Explain each brake command, and say whether the train braked",
             "The causes and trips are those of `etcs_lab why`; docs/reference/lab.md defines the figures. Status 4: it took longer or farther than "
             "the train data promise, or `lab check` finds something.", "why image 120",
-            IMAGE, Argument("event", "[EVENT]", "the number of one event (default: each brake command)", NATURAL, required=False), JSON_LINES),
-    Command("dissector", "journal", "cli.journal_commands:write_dissector", "Write a Wireshark dissector for telegrams, in Lua",
-            "Captures have the link type USER0 (147).", "dissector telegrams.lua",
-            Argument("out", "[OUT.lua]", "output file (default: standard output)", required=False), FORCE),
-    Command("capture", "journal", "cli.journal_commands:write_capture", "Write the telegrams of a journal as a capture for Wireshark",
-            "The link type is USER0 (147).", "capture image telegrams.pcap", IMAGE, Argument("out", "OUT.pcap", "the capture to make"), FORCE)]
+            IMAGE, Argument("event", "[EVENT]", "the number of one event (default: each brake command)", NATURAL, required=False), JSON_LINES)]
 EVIDENCE = [
     Command("seal", "evidence", "cli.evidence_commands:seal_image", "Seal an image with all reports about it in a folder of evidence (BagIt 1.0)",
             "Reads the image once and never writes to it. FOLDER has to be new. Status 4: the folder is made, and something in the image is lost, "
@@ -244,16 +236,10 @@ EVIDENCE = [
             *TIMES),
     Command("verify", "evidence", "cli.evidence_commands:verify_bag", "Verify a folder of evidence, and print what it shows and what was altered",
             "Status 4: a file was altered or is missing, a signature isn't valid, or the verdict of the image has a sentence.", "verify evidence",
-            Argument("folder", "FOLDER", "a folder that `lab seal` or `lab redact` made"),
-            option("--original", "the image or bag that a redacted copy was made of", "IMAGE|BAG", PATH),
-            option("--key", "the key of a redacted copy", "FILE", PATH),
+            Argument("folder", "FOLDER", "a folder that `lab seal` made"),
             option("--signers", "allowed OpenSSH signers (see ssh-keygen(1)); one of them must have signed", "FILE", PATH),
             option("--keyring", "OpenPGP public keys, not armored; one of them must have signed", "FILE", PATH),
-            option("--authority", "certificates of time stamp authorities; one of them must have stamped it", "FILE", PATH)),
-    Command("redact", "evidence", "cli.evidence_commands:redact", "Hand out a journal without the driver's identity and the running number",
-            "Makes a new folder with report, table, events and causes, and FOLDER.key, which you keep. Never makes an image. Status 4: the folder is made, and "
-            "the verdict of the image has a sentence.", "redact evidence handed_out",
-            Argument("source", "IMAGE|BAG", "a journal image, or a folder that `lab seal` made"), Argument("folder", "FOLDER", "the folder to make"))]
+            option("--authority", "certificates of time stamp authorities; one of them must have stamped it", "FILE", PATH))]
 TESTING = [
     Command("build", "testing", "cli.testing_commands:write_scenario", "Compile a YAML scenario to the JSON that `etcs run` reads",
             "Errors name the file, line and column.", "build drive.yaml drive.json",
@@ -274,10 +260,6 @@ TESTING = [
             FORCE, option("--keep", "keep the image and report of each failed case in this new folder", "FOLDER"),
             option("--against", "also run another unit: a command that speaks the protocol of docs/howto/oracle.md. Its answers are checked and compared",
                    "COMMAND"), WITHIN, context_settings={"ignore_unknown_options": True}),
-    Command("results", "testing", "cli.testing_commands:write_results", "Write results of `lab test --junitxml` as one HTML page",
-            "Failures come first, then what changed between the runs, sections of SUBSET-026 and slow cases. The page has no script and loads nothing from the "
-            "network. Status 4: a result of the newest run failed.", "results monday.xml friday.xml results.html",
-            Argument("paths", "RESULTS.xml...", "results, one file for each run", nargs=-1, required=True), Argument("out", "OUT.html", "the page to make"), FORCE),
     Command("coverage", "testing", "cli.testing_commands:show_coverage", "List the sections and transitions that the cases of a folder cover",
             "Status 4: a section or transition of the product has neither a case nor a reason why not.", "coverage suites",
             Argument("folder", "FOLDER", "a folder or a file with test cases")),

@@ -1,10 +1,10 @@
-"""The commands about evidence: `seal`, `verify` and `redact`."""
+"""The commands about evidence: `seal` and `verify`."""
 import sys
 from types import SimpleNamespace
 
 from ..escaping import shown
 from ..journal.reading import Progress
-from ..program import FOUND, WRONG_WORDS, Failed
+from ..program import FOUND
 from .journal_commands import say_verdict
 
 
@@ -23,30 +23,12 @@ def seal_image(given: SimpleNamespace, progress: Progress) -> int:
 
 def verify_bag(given: SimpleNamespace, progress: Progress) -> int:
     """Runs `lab verify`."""
-    from ..evidence import bag, redaction, seal, signing
-    is_copy = redaction.is_copy(given.folder)
-    if bool(given.original) != bool(given.key) or given.key and not is_copy:
-        raise Failed("--original and --key belong together, and to a redacted copy", WRONG_WORDS)
-    if is_copy:
-        found = redaction.verify(given.folder, given.original, given.key)
-        if given.signers or given.keyring or given.authority:
-            found.unsigned.append("a redacted copy has no signature, so nothing is shown about who made it")
-    else:
-        found = seal.verify(given.folder, signing.Trust(given.signers, given.keyring, given.authority))
+    from ..evidence import bag, seal, signing
+    found = seal.verify(given.folder, signing.Trust(given.signers, given.keyring, given.authority))
     for word, lines in (("altered", found.faults), ("unsigned", found.unsigned), ("shown", found.shown), ("not shown", found.not_shown)):
         sys.stdout.writelines(f"{shown(f'{word}: {line}')}\n" for line in lines)
-    what = "the copy is{} as it was made" if is_copy else "the bag is{} as it was sealed"
+    what = "the bag is{} as it was sealed"
     unsure = f"whether {what.format('')} isn't shown"
     sys.stdout.write((unsure if found.unsigned and not found.faults else what.format(" not" if found.faults else "")) + "\n")
     sys.stdout.flush()
     return max(say_verdict(given.folder / bag.PAYLOAD / seal.IMAGE, found.image), FOUND if found.faults or found.unsigned else 0)
-
-
-def redact(given: SimpleNamespace, progress: Progress) -> int:
-    """Runs `lab redact`."""
-    from ..evidence import redaction
-    count, judged = redaction.redact(given.source, given.folder, progress)
-    sys.stdout.write(f"{shown(given.folder.name)}: {redaction.SAYS}; {redaction.entries_text(count)} left out\n"
-                     f"keep {shown(redaction.key_of(given.folder).name)}, and don't hand it out: with it lab verify shows of which image the copy was made\n")
-    sys.stdout.flush()
-    return say_verdict(given.source, judged)

@@ -1,4 +1,4 @@
-"""The commands about a journal: `table`, `timeline`, `database`, `report`, `check`, `why`, `dissector` and `capture`.
+"""The commands about a journal: `table`, `database`, `report`, `check` and `why`.
 
 What takes long to load, such as pandas and matplotlib, is loaded by the command that needs it.
 """
@@ -12,7 +12,7 @@ from types import SimpleNamespace
 
 from .. import files, program
 from ..errors import say
-from ..journal import braking, plausibility, verdict, why
+from ..journal import anonymous, braking, plausibility, verdict, why
 from ..journal.reading import Journal, Progress, check, objects, parsed_all, read
 from ..journal.verdict import Verdict
 from ..program import DEVICE, NOT_WHOLE, REFUSED, WHOLE, WRONG_WORDS, Failed, Run
@@ -64,6 +64,8 @@ def write_table(given: SimpleNamespace, progress: Progress) -> int:
     """Runs `lab table`."""
     if given.damaged and given.other_blocks:
         raise Failed("--damaged can't be combined with --all", WRONG_WORDS)
+    if given.anonymous and (given.damaged or given.other_blocks or given.times):
+        raise Failed("--anonymous can't be combined with --all, --damaged or --times", WRONG_WORDS)
     suffix = given.out.suffix.lower() if given.out is not None else ""
     if suffix not in ("", ".csv", ".xlsx"):
         raise Failed(f"{given.out}: the name has to end in .csv or .xlsx", WRONG_WORDS)
@@ -75,27 +77,10 @@ def write_table(given: SimpleNamespace, progress: Progress) -> int:
                    strays=given.damaged)
     take_times(journal, given)
     from ..journal import tables, workbook
-    table = tables.strays(journal) if given.damaged else tables.frame(journal)
-    notes = [f"sha256 {journal.sha256}", f"read by {program.reader()}", *([journal.times.note()] if journal.times else [])]
+    handed_out = anonymous.of(journal) if given.anonymous else journal
+    table = tables.strays(journal) if given.damaged else anonymous.frame(handed_out) if given.anonymous else tables.frame(journal)
+    notes = [f"sha256 {handed_out.sha256}", f"read by {program.reader()}", *([handed_out.times.note()] if handed_out.times else [])]
     write(out, workbook.workbook(tables.written(table), notes) if is_book else tables.csv_parts(table), given.image)
-    return note(journal)
-
-
-def write_timeline(given: SimpleNamespace, progress: Progress) -> int:
-    """Runs `lab timeline`."""
-    if given.out is not None and given.out.suffix not in (".csv", ".jsonl"):
-        raise Failed(f"{given.out}: the name has to end in .csv or .jsonl", WRONG_WORDS)
-    out = out_of(given, given.image)
-    journal = read(given.image, replay=True, progress=progress)
-    take_times(journal, given)
-    from ..evidence import timeline
-    if given.out is not None and given.out.suffix == ".csv":
-        text, left = timeline.as_csv(journal)
-        if left:
-            say(f"{journal.path}: {left} events have no time of day and are left out")
-    else:
-        text = timeline.as_json(journal)
-    write(out, text, given.image)
     return note(journal)
 
 
@@ -128,13 +113,16 @@ def marks_need_all(given: SimpleNamespace) -> bool:
 def write_report(given: SimpleNamespace, progress: Progress) -> int:
     """Runs `lab report`."""
     from ..journal.extent import Extent, bound
+    if given.anonymous and given.times:
+        raise Failed("--anonymous can't be combined with --times", WRONG_WORDS)
     extent = Extent(bound(given.first) if given.first else None, bound(given.last) if given.last else None, given.life)
     out = out_of(given, given.image)
     part = None if marks_need_all(given) else extent.part
     journal = read(given.image, replay=True, why=True, progress=progress, strays=True, part=part)
     take_times(journal, given)
     from ..journal import report
-    write(out, report.page(journal, extent, progress, given.newest_first), given.image)
+    handed_out = anonymous.of(journal) if given.anonymous else journal
+    write(out, report.page(handed_out, extent, progress, given.newest_first), given.image)
     return note(journal)
 
 
@@ -183,25 +171,3 @@ def explain(given: SimpleNamespace, progress: Progress) -> int:
     sys.stdout.writelines(f"{json.dumps(one.as_json())}\n" if given.json else one.text(texts) for one in found)
     sys.stdout.flush()
     return max(note(journal), NOT_WHOLE if any(one.braking and braking.is_broken(one.braking) for one in found) else WHOLE)
-
-
-def write_dissector(given: SimpleNamespace, progress: Progress) -> None:
-    """Runs `lab dissector`."""
-    from ..wireshark import dissector
-    if given.out:
-        files.write(files.Out(given.out, given.force), dissector.lua())
-    else:
-        sys.stdout.write(dissector.lua())
-
-
-def write_capture(given: SimpleNamespace, progress: Progress) -> int:
-    """Runs `lab capture`."""
-    from ..wireshark import dissector
-    out = files.Out(given.out, given.force)
-    files.check_all([out], [given.image])
-    journal = read(given.image, replay=True, progress=progress)
-    data, count = dissector.capture(journal)
-    if not count:
-        raise Failed(f"{given.image}: the journal has no telegram. Nothing was written.", REFUSED)
-    files.write(out, data, [given.image])
-    return note(journal)

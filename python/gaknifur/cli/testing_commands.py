@@ -1,4 +1,4 @@
-"""The commands about test cases: `build`, `case`, `test`, `results` and `coverage`."""
+"""The commands about test cases: `build`, `case`, `test` and `coverage`."""
 import contextlib
 import difflib
 import hashlib
@@ -119,16 +119,6 @@ def run_tests(given: SimpleNamespace, progress: Progress) -> None:
         raise Failed(f"{given.folder}: a test failed", FOUND)
     if status != pytest.ExitCode.OK:
         raise Failed(f"{given.folder}: not all tests could be run, as the lines above say", REFUSED)
-
-
-def write_results(given: SimpleNamespace, progress: Progress) -> int:
-    """Runs `lab results`."""
-    from ..testing import results_page
-    out = files.Out(given.out, given.force)
-    files.check_all([out], given.paths)
-    text, failed = results_page.page(given.paths)
-    files.write(out, text, given.paths)
-    return FOUND if failed else 0
 
 
 def show_coverage(given: SimpleNamespace, progress: Progress) -> None:

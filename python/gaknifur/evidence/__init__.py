@@ -1,1 +1,1 @@
-"""Sealed copies of images, times of day, signatures and timelines."""
+"""Sealed copies of images, times of day and signatures."""

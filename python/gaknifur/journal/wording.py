@@ -31,7 +31,7 @@ def exact(value: int, unit: int) -> str:
 
 
 LEFT_OUT = "[left out]"
-"""What a redacted copy has in place of what is left out."""
+"""What an anonymous table or report has in place of what is left out."""
 
 
 def action_text(record: Json) -> str:

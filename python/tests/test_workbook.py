@@ -1,7 +1,4 @@
-"""Timelines and workbooks."""
-import csv
-import io
-import json
+"""Tables as workbooks."""
 import unittest
 from pathlib import Path
 
@@ -10,8 +7,6 @@ import pandas as pd
 from openpyxl.utils.escape import unescape
 
 from gaknifur import files
-from gaknifur.evidence import timeline, times
-from gaknifur.evidence.times import Times
 from gaknifur.files import Out
 from gaknifur.journal import tables, workbook
 from gaknifur.journal.reading import Journal
@@ -22,43 +17,13 @@ from .samples import InFolder, action, journal, reading, record
 BAD = ('=cmd|"/C calc"!A0', "+1", "-1", "@SUM(A1)", "\ta", "a,b\"c")
 
 
-class Room(InFolder):
-    """A folder of its own."""
+class Workbooks(InFolder):
+    """Tables as workbooks."""
 
     def sample(self) -> Journal:
-        """A journal of two lives, of which one has a mark."""
-        found = journal(record(0, "powerup"), reading(1, 36_000, time_ms=1_500), *(action(at, "enter_identity", identity=text) for at, text in enumerate(BAD, 2)),
-                        record(8, "powerup", life=2))
-        (self.room / "marks").write_text(f"{times.FIRST}\n1,0,,2026-03-01T10:00:00.000Z,50,GNSS\n")
-        found.times = Times.of(found, self.room / "marks")
-        return found
-
-
-class Timelines(Room):
-    """Lines for other programs."""
-
-    def test_csv_has_what_timesketch_asks_for(self) -> None:
-        text, left = timeline.as_csv(self.sample())
-        rows = list(csv.DictReader(io.StringIO(text)))
-        self.assertEqual((len(rows), left), (8, 1))
-        self.assertEqual([rows[1][name] for name in ("datetime", "timestamp_desc", "message", "timestamp", "uncertainty_ms")], [
-            "2026-03-01T10:00:01.500+00:00", "onboard unit, by marks next to the journal",
-            "life 1 event 1: moved 1 m, at 36 km/h; Full Supervision, brake none, limit 40 km/h", "1772359201500000", "51"])
-
-    def test_json_has_all_events(self) -> None:
-        lines = [json.loads(line) for line in timeline.as_json(self.sample()).splitlines()]
-        self.assertEqual([line["event"] for line in lines], list(range(9)))
-        self.assertEqual((lines[1]["datetime"], lines[8]["datetime"], lines[8]["timestamp_desc"]), ("2026-03-01T10:00:01.500+00:00", None, None))
-        self.assertEqual(lines[2]["identity"], BAD[0])
-
-    def test_without_marks_none_has_a_time(self) -> None:
-        sample = self.sample()
-        sample.times = None
-        self.assertEqual((timeline.as_csv(sample)[0].count("\n"), timeline.as_csv(sample)[1]), (1, 9))
-
-
-class Workbooks(Room):
-    """Tables as workbooks."""
+        """A journal of two lives."""
+        return journal(record(0, "powerup"), reading(1, 36_000, time_ms=1_500), *(action(at, "enter_identity", identity=text) for at, text in enumerate(BAD, 2)),
+                       record(8, "powerup", life=2))
 
     def test_numbers_are_numbers_and_texts_are_texts(self) -> None:
         table = tables.written(tables.frame(self.sample()))

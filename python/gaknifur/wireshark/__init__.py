@@ -1,1 +1,0 @@
-"""The dissector and the captures for Wireshark."""

@@ -41,7 +41,7 @@ rows test_decode 293
 rows test_parts 2762
 rows test_onboard 34580
 rows test_kernel 713
-rows test_track 86
+rows test_track 50
 rows test_guard 181
 python3 ../hostile/refused_calls.py "$made/program" || status=1
 exit $status

@@ -58,7 +58,7 @@ from program import Image
 
 TOP = Path(__file__).resolve().parents[2]
 # Of all rows at least so many.
-LEAST = {"runs of the program": 530, "runs worked out": 145}
+LEAST = {"runs of the program": 500, "runs worked out": 130}
 NOBODY = 65534
 PAGE = 4096
 F_SETPIPE_SZ = 1031

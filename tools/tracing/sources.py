@@ -16,11 +16,12 @@ LAW = re.compile(r"^/// A law: (.*(?:\n/// .*)*)\n(?:#.*\n)*pub fn (\w+)", re.M)
 # The files of rows, or the scripts whose sentences are above the rows that they make.
 ROWS = {
     "": ["tests/rows/test_kernel.row"],
-    "programs": ["tests/programs"],
+    "programs": ["tests/programs/*.row"],
+    "suites": ["suites/*.case.yaml"],
     **{name: [f"tests/rows/test_{name}.row"] for name in ("parts", "decode", "track", "guard")},
     "onboard": ["tests/rows/test_onboard.row", "tests/plain/onboard_lives.py"],
 }
-TITLE = re.compile(r"^(?:row |case |# | *made\.say\(f?\"# )?(.*?)(?:\"\))?$")
+TITLE = re.compile(r"^(?:row |case |test_case: |# | *made\.say\(f?\"# )?(.*?)(?:\"\))?$")
 
 
 def tool(name):
@@ -112,7 +113,7 @@ def rows():
     """The lines of each file of rows, without the marks of titles, and their places."""
     found = {}
     for prefix, paths in ROWS.items():
-        files = [file for path in map(Path, paths) for file in (sorted(path.glob("*.row")) if path.is_dir() else [path])]
+        files = [file for path in paths for file in sorted(Path().glob(path))]
         found[prefix] = [(TITLE.match(line)[1], Place(str(file), number)) for file in files
                          for number, line in enumerate(file.read_text(encoding="utf-8").splitlines(), 1)
                          if prefix or line.startswith("row ")]

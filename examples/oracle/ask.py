@@ -18,7 +18,7 @@ class UnitProcess:
     def __init__(self, words):
         self.process = subprocess.Popen(words, stdin=subprocess.PIPE, stdout=subprocess.PIPE, text=True)
         self.life, self.event = 0, 0
-        self.greeting = self.ask({"protocol": 1, "case": "asked by hand"})
+        self.greeting = self.ask({"protocol": 2, "case": "asked by hand"})
 
     def ask(self, message):
         """The answer to a message."""

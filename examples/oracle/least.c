@@ -32,11 +32,11 @@ static void take(least_unit *unit, const char *event) {
 int main(void) {
     static char line[LINE];
     least_unit unit = {"null"};
-    if (!fgets(line, sizeof line, stdin) || !member(line, "\"protocol\":1")) {
+    if (!fgets(line, sizeof line, stdin) || !member(line, "\"protocol\":2")) {
         fputs("another protocol\n", stderr);
         return 1;
     }
-    puts("{\"protocol\":1,\"unit\":\"one that stands\",\"members\":[\"mode\",\"level\",\"brake\"]}");
+    puts("{\"protocol\":2,\"unit\":\"one that stands\",\"members\":[\"mode\",\"level\",\"brake\"]}");
     fflush(stdout);
     while (fgets(line, sizeof line, stdin)) {
         const char *number = member(line, "\"event\":");

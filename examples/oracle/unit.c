@@ -144,7 +144,7 @@ int main(void) {
     for (uint32_t i = 0; etcs_unit_format_request(SLOTS, i, &request, bytes, sizeof bytes) == ETCS_UNIT_OK; i++)
         carry_out(&request);
     if (fgets(line, sizeof line, stdin))
-        puts("{\"protocol\":1,\"unit\":\"the unit of etcs_unit.h\",\"members\":"
+        puts("{\"protocol\":2,\"unit\":\"the unit of etcs_unit.h\",\"members\":"
              "[\"mode\",\"level\",\"brake\",\"indications\",\"place_cm\",\"uncertainty_cm\",\"limit_m_per_h\"]}");
     fflush(stdout);
     while (fgets(line, sizeof line, stdin)) {

@@ -49,9 +49,9 @@ def say(message):
 
 def main():
     greeting = json.loads(sys.stdin.readline())
-    if greeting["protocol"] != 1:
+    if greeting["protocol"] != 2:
         sys.exit(f"the protocol {greeting['protocol']} isn't known")
-    say({"protocol": 1, "unit": "one that stands", "members": MEMBERS})
+    say({"protocol": 2, "unit": "one that stands", "members": MEMBERS})
     unit = Unit()
     for line in sys.stdin:
         say(unit.answer(json.loads(line)))

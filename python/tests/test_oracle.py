@@ -68,14 +68,18 @@ class Messages(unittest.TestCase):
         self.assertIn("is given twice", self.wrong(line(ANSWER)[:-1] + b', "mode": "FS"}'))
 
     def test_a_greeting(self) -> None:
-        greeting = protocol.greeting_of(line({"protocol": 1, "unit": "x", "members": ["brake", "mode"]}))
+        greeting = protocol.greeting_of(line({"protocol": 2, "unit": "x", "members": ["brake", "mode"]}))
         self.assertEqual(greeting.members, ("mode", "brake"))
         self.assertEqual(greeting.leaves_out, ("level", "indications", "place_cm", "uncertainty_cm", "limit_m_per_h"))
-        all_wrong: list[Json] = [{"protocol": True}, {"protocol": "1"}, {"members": []},
+        all_wrong: list[Json] = [{"protocol": True}, {"protocol": "2"}, {"members": []},
                                   {"members": ["mode", "brake", "mode"]}, {"unit": "x" * 201}]
         for wrong in all_wrong:
             with self.assertRaises(protocol.Wrong):
-                protocol.greeting_of(line({"protocol": 1, "unit": "x", "members": ["brake", "mode"]} | wrong))
+                protocol.greeting_of(line({"protocol": 2, "unit": "x", "members": ["brake", "mode"]} | wrong))
+
+    def test_a_unit_of_version_1(self) -> None:
+        with self.assertRaisesRegex(protocol.Wrong, "^version 1 of the protocol, and lab speaks version 2$"):
+            protocol.greeting_of(line({"protocol": 1, "unit": "x", "tells": ["mode", "brake"]}))
 
 
 class Processes(unittest.TestCase):
@@ -109,7 +113,7 @@ def say(message):
     sys.stdout.flush()
 def greet(name="x"):
     sys.stdin.readline()
-    say({"protocol": 1, "unit": name, "members": ["mode", "brake"]})
+    say({"protocol": 2, "unit": name, "members": ["mode", "brake"]})
 """
 
 
@@ -152,7 +156,7 @@ for number in range(10_000):
 
     def test_a_line_at_the_limit(self) -> None:
         text = """sys.stdin.readline()
-greeting = json.dumps({"protocol": 1, "unit": "x", "members": ["mode", "brake"]})
+greeting = json.dumps({"protocol": 2, "unit": "x", "members": ["mode", "brake"]})
 sys.stdout.write(greeting + " " * (SIZE - 1 - len(greeting)) + "\\n")
 sys.stdout.flush()
 time.sleep(60)

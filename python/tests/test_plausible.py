@@ -324,7 +324,7 @@ class Groups(unittest.TestCase):
     def test_in_words(self) -> None:
         found = judge([telegram(0, 7, 0), telegram(1, 8, 90_000), telegram(2, 7, 5_000)])
         self.assertEqual(plausibility.text(found.findings[0]), "implausible: life 1, events 0 to 2: group 1/7 was read at another place of the life, 50 m off")
-        self.assertTrue(plausibility.summary(found, Thresholds()).startswith("plausibility: 1 implausible; 0 readings and 3 groups of 1 lives"))
+        self.assertTrue(plausibility.summary(found, Thresholds()).startswith("plausibility: 1 implausible; 0 readings and 3 groups of 1 life"))
 
 
 if __name__ == "__main__":

@@ -5,6 +5,7 @@ import unittest
 from pathlib import Path
 
 from gaknifur.cli.search_commands import names_of, report_held
+from gaknifur.program import Failed
 from gaknifur.testing import properties
 
 LONG = "while the train stands and nothing has been heard of a track for a long time"
@@ -32,7 +33,16 @@ class Results(unittest.TestCase):
                                       (1, "", "holds"), (0, "", "unjudged")):
             with contextlib.redirect_stdout(io.StringIO()) as printed:
                 self.assertEqual(report_held(one, judged, where), not judged)
-            self.assertEqual(printed.getvalue(), f"{wanted}: {one.note}: {judged} records judged{where}\n")
+            self.assertEqual(printed.getvalue(), f"{wanted}: {one.note}: {judged} {'record' if judged == 1 else 'records'} judged{where}\n")
+
+
+class TestCases(unittest.TestCase):
+    """A file of test cases in place of properties."""
+
+    def test_lab_test_is_named(self) -> None:
+        path = Path(__file__).parents[2] / "suites/power_up_and_desk.case.yaml"
+        with self.assertRaisesRegex(Failed, r"power_up_and_desk\.case\.yaml:2:1: this is a test case; `lab test` runs it$"):
+            properties.read(path)
 
 
 if __name__ == "__main__":

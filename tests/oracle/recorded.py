@@ -31,7 +31,7 @@ def say(message):
 def main(path, word):
     records = [one for one in map(json.loads, Path(path).read_text(encoding="utf-8").splitlines()) if "event" in one]
     sys.stdin.readline()
-    say({"protocol": 1, "unit": word, "members": ANSWER})
+    say({"protocol": 2, "unit": word, "members": ANSWER})
     for _, record in zip(sys.stdin, records):
         answer = {name: record[name] for name in ("event", *ANSWER)}
         wrong = dict(enumerate(ANSWER, 1)).get(record["life"])

@@ -50,7 +50,7 @@ FOUND = {
     "number_with_a_point": f"{AT}limit_m_per_h 0.0, which isn't a whole number",
     "infinite": f"{AT}limit_m_per_h Infinity, which isn't a whole number",
     "true_for_a_number": f"{AT}level true, which isn't 0, 1 or null",
-    "other_protocol": "greeting: the protocol 2, and this one is 1",
+    "other_protocol": "greeting: version 1 of the protocol, and lab speaks version 2",
     "members_without_brake": "greeting: \"members\" without brake",
     "unknown_member": "greeting: \"members\" that isn't a list of mode",
     "nameless": "greeting: a unit whose name isn't a text of 1 to 200 characters",
@@ -128,7 +128,7 @@ EVENTS = ({"kind": "powerup", "word": "moved"}, {"kind": "telegram", "telegram":
 
 def served(message):
     """The message of `lab serve` for the third line, which follows a greeting and a power-up; None if it is answered."""
-    lines = [protocol.line_of(one).encode() for one in ({"protocol": 1}, {"life": 1, "event": 0} | EVENTS[0])]
+    lines = [protocol.line_of(one).encode() for one in ({"protocol": 2}, {"life": 1, "event": 0} | EVENTS[0])]
     try:
         own_unit.serve(io.BytesIO(b"".join([*lines, message])), io.BytesIO())
     except program.Failed as failed:

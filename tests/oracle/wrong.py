@@ -147,7 +147,7 @@ class Wrong:
 
 
 GREETINGS = {
-    "other_protocol": lambda answer: line({**answer, "protocol": 2}),
+    "other_protocol": lambda answer: line({**answer, "protocol": 1}),
     "members_without_brake": lambda answer: line({**answer, "members": ["mode"]}),
     "unknown_member": lambda answer: line({**answer, "members": [*answer["members"], "colour"]}),
     "nameless": lambda answer: line({**answer, "unit": ""}),

@@ -10,7 +10,7 @@ from typing import Any
 from .. import files
 from ..escaping import shown
 from ..journal.reading import Json, Progress
-from ..journal.wording import MODES
+from ..journal.wording import MODES, counted
 from ..program import DEVICE, FOUND, REFUSED, WRONG_WORDS, Failed, naming
 from ..testing import case_runner, properties
 from ..testing.properties import Property, PropertyFile, Violated
@@ -82,7 +82,7 @@ def report_held(one: Property, judged: int, where: str = "") -> bool:
     was never judged although it doesn't say why that may be."""
     why = f"; {one.unjudged}" if one.unjudged and not judged else ""
     result = "unjudged" if not judged else "thin" if where and judged < FEW_JUDGED else "holds"
-    print(f"{result}: {one.note}: {judged} records judged{where}{why}", flush=True)
+    print(f"{result}: {one.note}: {counted(judged, 'record', 'records')} judged{where}{why}", flush=True)
     return not judged and one.unjudged is None
 
 
@@ -188,7 +188,7 @@ def search(given: SimpleNamespace, progress: Progress) -> int:
         how = (f"Found by ./lab search {shown(given.yaml.name)} --seed {seed} --examples {given.examples}, "
                "and shrunk")
         text = searching.case_text(found, made, f"{plain(file.name)}_{name}", how)
-        print(f"broken: {one.note}: {found.steps} steps, {len(found.lives)} lives\n{indented(found.message)}", flush=True)
+        print(f"broken: {one.note}: {counted(found.steps, 'step', 'steps')}, {counted(len(found.lives), 'life', 'lives')}\n{indented(found.message)}", flush=True)
         if given.keep:
             lives = found.lives
             print(f"  kept: {keep(given.keep, name, text, lambda path: searching.image_of(lives, path))}")

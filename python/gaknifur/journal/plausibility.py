@@ -9,7 +9,7 @@ from itertools import pairwise
 from typing import Any
 
 from .reading import Json
-from .wording import kmh
+from .wording import counted, kmh
 
 CM_PER_M_PER_H_MS = 100 / 3_600_000
 """1 m/h in cm/ms."""
@@ -350,8 +350,8 @@ def text(line: Json) -> str:
 def summary(found: Found, limits: Thresholds) -> str:
     """The summary as text."""
     number = len(found.findings) or "nothing"
-    return (f"plausibility: {number} implausible; {found.readings} readings and {found.groups} groups of {found.lives} lives, "
-            f"{found.timed} with moments; thresholds: {limits.text()}")
+    return (f"plausibility: {number} implausible; {counted(found.readings, 'reading', 'readings')} and {counted(found.groups, 'group', 'groups')} of "
+            f"{counted(found.lives, 'life', 'lives')}, {found.timed} with moments; thresholds: {limits.text()}")
 
 
 def as_json(found: Found, limits: Thresholds) -> Json:

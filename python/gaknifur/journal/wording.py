@@ -25,6 +25,11 @@ def kmh(metres_per_hour: float | None) -> str:
     return "?" if metres_per_hour is None else f"{metres_per_hour / 1000:g}"
 
 
+def counted(number: int, one: str, more: str) -> str:
+    """A number with its noun, in the singular or the plural."""
+    return f"{number} {one if number == 1 else more}"
+
+
 def exact(value: int, unit: int) -> str:
     """A whole number divided by a unit, with all of its digits."""
     return f"{Decimal(value) / unit:f}"

@@ -9,7 +9,7 @@ from dataclasses import dataclass
 from pathlib import Path
 
 from ..journal.reading import Json
-from ..yaml_files import Value, document
+from ..yaml_files import Value, document, documents
 from . import scenarios
 from .case_runner import Missed, Played, check, is_met
 from .cases import CONDITION, WITHIN, Condition, Test, sections_of, test_of
@@ -198,12 +198,15 @@ class PropertyFile:
 
 def read(path: Path) -> PropertyFile:
     """The properties of a file."""
+    found = documents(path)
+    if found and found[0].is_mapping() and "test_case" in found[0].entries():
+        raise found[0].fault("this is a test case; `lab test` runs it")
     at = document(path)
     members = at.members(("search", "properties"), ("scenarios", *scenarios.SHARED))
-    found = [property_of(one) for one in members["properties"].elements()]
-    if not found:
+    properties = [property_of(one) for one in members["properties"].elements()]
+    if not properties:
         raise members["properties"].fault("the list of properties is empty")
-    for number, one in enumerate(found):
-        if one.note in [other.note for other in found[:number]]:
+    for number, one in enumerate(properties):
+        if one.note in [other.note for other in properties[:number]]:
             raise one.at.fault("this note is given twice")
-    return PropertyFile(path, members["search"].text(), members.get("scenarios"), scenarios.shared_of(members, path), found)
+    return PropertyFile(path, members["search"].text(), members.get("scenarios"), scenarios.shared_of(members, path), properties)

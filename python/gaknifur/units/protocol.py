@@ -10,7 +10,8 @@ from dataclasses import dataclass
 from ..journal.reading import Json
 from ..journal.wording import INDICATIONS, MODES
 
-PROTOCOL = 1
+PROTOCOL = 2
+"""The version. In version 1 the greeting of a unit had `tells` in place of `members`."""
 ANSWER = ("mode", "level", "brake", "indications", "place_cm", "uncertainty_cm", "limit_m_per_h")
 """The members of an answer, in the order in which they are compared."""
 NEEDED = ("mode", "brake")
@@ -142,14 +143,15 @@ class Greeting:
 def check_version(found: Json) -> None:
     """Refuses a greeting of another version."""
     if type(found["protocol"]) is not int or found["protocol"] != PROTOCOL:
-        raise Wrong(f"the protocol {short(json.dumps(found['protocol']))}, and this one is {PROTOCOL}")
+        raise Wrong(f"version {short(json.dumps(found['protocol']))} of the protocol, and lab speaks version {PROTOCOL}")
 
 
 def greeting_of(line: bytes) -> Greeting:
     """The greeting on a line."""
     found = object_of(line)
+    if "protocol" in found:
+        check_version(found)  # (another version has other members)
     check_members(found, ("protocol", "unit", "members"))
-    check_version(found)
     unit, members = found["unit"], found["members"]
     if not isinstance(unit, str) or not 1 <= len(unit) <= MOST_NAME:
         raise Wrong(f"a unit whose name isn't a text of 1 to {MOST_NAME} characters")

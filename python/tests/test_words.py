@@ -18,7 +18,7 @@ from unittest.mock import patch
 
 
 from gaknifur.__main__ import main
-from gaknifur.cli.commands import COMPLETE, Command, lab
+from gaknifur.cli.commands import COMPLETE, SECTIONS, Command, lab
 from gaknifur.cli.progress import Terminal
 from gaknifur.journal._words import CAUSES, LIMIT_CAUSES, TRIP_CAUSES
 from gaknifur.journal.plausibility import Thresholds
@@ -106,6 +106,13 @@ class Wrong(unittest.TestCase):
             self.assertEqual(dialect.findall(output.getvalue()), [], name)
             examples = re.findall(r"^  \$ lab (.*)", output.getvalue(), re.MULTILINE)
             self.assertEqual([one.startswith(f"{name} ") or one == name for one in examples], [True] if name else [], name)
+
+    def test_all_commands_are_on_one_screen(self) -> None:
+        self.assertEqual(sorted(name for names in SECTIONS.values() for name in names), sorted(lab.commands))
+        with contextlib.redirect_stdout(io.StringIO()) as output:
+            main(["--help"])
+        listed = re.findall(r"^  (\w+)  +[A-Z]", output.getvalue(), re.MULTILINE)
+        self.assertEqual((listed, len(output.getvalue().splitlines()) <= 50), ([name for names in SECTIONS.values() for name in names], True))
 
     def test_examples_are_right(self) -> None:
         for name, command in lab.commands.items():

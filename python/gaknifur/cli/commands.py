@@ -35,7 +35,9 @@ class Natural(click.ParamType):
 
 
 NATURAL = Natural(0, 999_999_999)
-SECTIONS = {"journal": "Journals", "evidence": "Evidence", "testing": "Testing", "simulation": "Simulation", "units": "Other units"}
+SECTIONS = {"Laboratory": ("build", "test", "case", "coverage", "lint", "drive", "campaign", "compare", "search", "against", "serve"),
+            "Investigation": ("why", "check", "report", "table", "database", "seal", "verify")}
+"""The commands in the order of the help."""
 
 
 def loaded(source: str) -> Any:
@@ -57,12 +59,12 @@ class Argument(click.Argument):
 
 
 class Command(click.Command):
-    """A command of a section, with an example. `does` names the function that carries it out: the module, a colon, and the function."""
+    """A command with an example. `does` names the function that carries it out: the module, a colon, and the function."""
 
-    def __init__(self, name: str, section: str, does: str, short: str, more: str, example: str, *params: click.Parameter, **named: Any) -> None:
+    def __init__(self, name: str, does: str, short: str, more: str, example: str, *params: click.Parameter, **named: Any) -> None:
         asks = help_option("--help") if named else HELP  # (where options go to pytest, -h may be a part of one, such as -kthis)
         super().__init__(name, params=[*params, asks], short_help=short, help=f"{short}. {more}", add_help_option=False, **named)
-        self.section, self.does, self.example = section, does, example
+        self.does, self.example = does, example
         self.allow_extra_args = True
 
     def invoke(self, context: click.Context) -> int:
@@ -100,10 +102,9 @@ class Lab(click.Group):
     def format_commands(self, context: click.Context, formatter: click.HelpFormatter) -> None:
         """A list of commands for each section."""
         widest = max(map(len, self.commands))
-        for section, title in SECTIONS.items():
+        for title, names in SECTIONS.items():
             with formatter.section(title):
-                formatter.write_dl([(name.ljust(widest), one.short_help or "") for name, one in self.commands.items()
-                                    if isinstance(one, Command) and one.section == section])
+                formatter.write_dl([(name.ljust(widest), self.commands[name].short_help or "") for name in names])
 
 
 class Checks(click.Option):
@@ -196,22 +197,22 @@ TIMES = [option("--times", "marks of the time of day (default: IMAGE.times, if i
 JOBS = Jobs()
 WITHIN = Setting("--answer-within", "time limit for each answer of the other unit", "SECONDS", float, "units.other_unit:WITHIN_S")
 JOURNAL = [
-    Command("table", "journal", "cli.journal_commands:write_table", "Print one row per journal record as CSV, or write a workbook",
+    Command("table", "cli.journal_commands:write_table", "Print one row per journal record as CSV, or write a workbook",
             "Column names end in their units. Unknown values are empty.", "table image table.xlsx",
             IMAGE, Argument("out", "[OUT.csv|OUT.xlsx]", "output file; .xlsx makes a workbook (default: CSV on standard output)", required=False),
             ALL, *TIMES, option("--damaged", "print instead the records of damaged or misplaced blocks, each with its slot and byte; nothing else "
                                 "confirms them"), ANONYMOUS, FORCE),
-    Command("database", "journal", "cli.journal_commands:write_database", "Add images to an SQLite database",
+    Command("database", "cli.journal_commands:write_database", "Add images to an SQLite database",
             "The database is created if it does not exist. An image that it already contains (by SHA-256) stays as it is.",
             "database image journals.db",
             Argument("images", "IMAGE...", "journal images", nargs=-1, required=True), Argument("out", "OUT.db", "the database"), ALL, *TIMES),
-    Command("report", "journal", "cli.journal_commands:write_report", "Write a report with charts as one HTML file",
+    Command("report", "cli.journal_commands:write_report", "Write a report with charts as one HTML file",
             "The page has no script and loads nothing from the network.", "report image report.html",
             IMAGE, Argument("out", "OUT.html", "the page to make"),
             option("--from first", "start at this event (120), place (300m) or moment (20.5s)", "WHERE"),
             option("--to last", "end at this event, place or moment", "WHERE"), option("--life", "report only this power cycle (life)", "N", int),
             FORCE, *TIMES, option("--newest-first", "list the lives from the last to the first"), ANONYMOUS),
-    Command("check", "journal", "cli.journal_commands:check_image", "Examine and replay an image, and list what is implausible",
+    Command("check", "cli.journal_commands:check_image", "Examine and replay an image, and list what is implausible",
             "Prints what `etcs_lab check` prints, and then implausible values, such as a movement that the recorded speeds don't explain. Status 4: "
             "something is lost, damaged, contradictory, different or implausible, as all commands about the image report it.", "check image",
             IMAGE, JSON, *(Setting(f"--{name.replace('_', '-')}", help, unit, int, f"journal.plausibility:Thresholds.{name}") for name, unit, help in (
@@ -222,34 +223,34 @@ JOURNAL = [
                 ("maximum_percent", "N", "how much a speed may be above the train's maximum, as a percentage"),
                 ("place_cm", "CM", "tolerated error of a balise group's place in cm"),
                 ("place_percent", "N", "plus this percentage of the distance")))),
-    Command("why", "journal", "cli.journal_commands:explain", "Explain each brake command, and say whether the train braked",
+    Command("why", "cli.journal_commands:explain", "Explain each brake command, and say whether the train braked",
             "The causes and trips are those of `etcs_lab why`; docs/reference/lab.md defines the figures. Status 4: it took longer or farther than "
             "the train data promise, or `lab check` finds something.", "why image 120",
             IMAGE, Argument("event", "[EVENT]", "the number of one event (default: each brake command)", NATURAL, required=False), JSON_LINES)]
 EVIDENCE = [
-    Command("seal", "evidence", "cli.evidence_commands:seal_image", "Seal an image with all reports about it in a folder of evidence (BagIt 1.0)",
+    Command("seal", "cli.evidence_commands:seal_image", "Seal an image with all reports about it in a folder of evidence",
             "Reads the image once and never writes to it. FOLDER has to be new. Status 4: the folder is made, and something in the image is lost, "
             "damaged, contradictory or implausible, or the replay differs.", 'seal image evidence --by "J. Smith"',
             IMAGE, Argument("folder", "FOLDER", "the folder to make"), option("--by", "who seals it (default: the user of this machine)", "TEXT"),
             option("--medium", "the medium that the image was read from", "TEXT"),
             option("--ssh-key", "sign with this OpenSSH key (ssh-keygen -Y sign)", "FILE"), option("--gpg-key", "sign with this OpenPGP key (gpg)", "NAME"),
             *TIMES),
-    Command("verify", "evidence", "cli.evidence_commands:verify_bag", "Verify a folder of evidence, and print what it shows and what was altered",
+    Command("verify", "cli.evidence_commands:verify_bag", "Verify a folder of evidence, and list what was altered",
             "Status 4: a file was altered or is missing, a signature isn't valid, or the verdict of the image has a sentence.", "verify evidence",
             Argument("folder", "FOLDER", "a folder that `lab seal` made"),
             option("--signers", "allowed OpenSSH signers (see ssh-keygen(1)); one of them must have signed", "FILE", PATH),
             option("--keyring", "OpenPGP public keys, not armored; one of them must have signed", "FILE", PATH),
             option("--authority", "certificates of time stamp authorities; one of them must have stamped it", "FILE", PATH))]
 TESTING = [
-    Command("build", "testing", "cli.testing_commands:write_scenario", "Compile a YAML scenario to the JSON that `etcs run` reads",
+    Command("build", "cli.testing_commands:write_scenario", "Compile a YAML scenario to the JSON that `etcs run` reads",
             "Errors name the file, line and column.", "build drive.yaml drive.json",
             Argument("yaml", "FILE.yaml", "a scenario"), Argument("out", "[OUT.json]", "output file (default: standard output)", required=False), FORCE),
-    Command("case", "testing", "cli.testing_commands:write_case", "Make a test case of a journal: its lives up to an event, and the unit's answer there",
-            "The case is played before it is written: each record of the event's life has to be as in the journal. Never overwrites a file. Status 1: the "
+    Command("case", "cli.testing_commands:write_case", "Make a test case of a journal's lives up to an event",
+            "The expected result is the unit's answer at the event. The case is played before it is written: each record of the event's life has to be as in the journal. Never overwrites a file. Status 1: the "
             "life can't be played again, and nothing was written.", "case image --event 8 braked.case.yaml",
             IMAGE, Argument("out", "[OUT.case.yaml]", "output file (default: standard output)", required=False),
             option("--event", "the last event of the case", "N", NATURAL, required=True)),
-    Command("test", "testing", "cli.testing_commands:run_tests", "Run the test cases of a folder and check their expected results",
+    Command("test", "cli.testing_commands:run_tests", "Run the test cases of a folder and check their expected results",
             "Other options go to pytest, such as -k, -x and --lf. Status 4: a test failed.", "test suites --section 3.13",
             Argument("words", "FOLDER", "a folder or a file with test cases", nargs=-1, type=click.UNPROCESSED, callback=folder_and_others, expose_value=False),
             option("--section", "only results about this section of SUBSET-026 or its subsections", "SECTION", multiple=True),
@@ -260,16 +261,16 @@ TESTING = [
             FORCE, option("--keep", "keep the image and report of each failed case in this new folder", "FOLDER"),
             option("--against", "also run another unit: a command that speaks the protocol of docs/howto/oracle.md. Its answers are checked and compared",
                    "COMMAND"), WITHIN, context_settings={"ignore_unknown_options": True}),
-    Command("coverage", "testing", "cli.testing_commands:show_coverage", "List the sections and transitions that the cases of a folder cover",
+    Command("coverage", "cli.testing_commands:show_coverage", "List the sections and transitions that the cases of a folder cover",
             "Status 4: a section or transition of the product has neither a case nor a reason why not.", "coverage suites",
             Argument("folder", "FOLDER", "a folder or a file with test cases")),
-    Command("lint", "testing", "testing.lint:lint", "List faults and weak points of scenarios and test cases",
+    Command("lint", "testing.lint:lint", "List faults and weak points of scenarios and test cases",
             "Runs `etcs_lab lint` and then the checks of docs/explain/safety.md. A case that is meant to show an item lists it under `shows`. Status 3: something "
             "was not judged, since the unit's library is missing. Status 4: something was found.", "lint suites --without advice",
             Argument("paths", "FILE...", "a scenario in JSON or YAML, test cases, or a folder", nargs=-1, required=True), JSON_LINES,
             Checks(["--without"], metavar="ITEM", multiple=True)),
-    Command("search", "testing", "cli.search_commands:search", "Search random scenarios for one that breaks a property, and shrink it",
-            "Status 4: one was found, or a property was never judged.", "search properties.yaml --examples 1000",
+    Command("search", "cli.search_commands:search", "Search random scenarios for one that breaks a property",
+            "A scenario that is found is shrunk. Status 4: one was found, or a property was never judged.", "search properties.yaml --examples 1000",
             Argument("yaml", "FILE.yaml", "the file with the properties"),
             Setting("--examples", "number of scenarios to try", "N", int, "cli.search_commands:EXAMPLES"),
             option("--seed", "the same seed gives the same scenarios (default: a random one, which is printed)", "N", int),
@@ -279,13 +280,13 @@ TESTING = [
             option("--records", "check these records of any unit instead of searching: lines as `etcs_lab events` prints them", "EVENTS.jsonl", PATH),
             WITHIN, JOBS)]
 SIMULATION = [
-    Command("drive", "simulation", "cli.drive_commands:play_drive", "Run a simulated train in a closed loop with the onboard unit",
+    Command("drive", "cli.drive_commands:play_drive", "Run a simulated train in a closed loop with the onboard unit",
             "The unit is the library that `tools/library PREFIX` makes; GAKNIFUR_ETCS_UNIT names its .so.", "drive drive.yaml --picture drive.svg",
             Argument("yaml", "FILE.yaml", "a scenario with a drive"), option("--csv", "write one row per time step", "OUT.csv", PATH),
             option("--picture", "draw speed and limit over the place (.svg or .png)", "OUT", PATH),
             option("--image", "keep the journal here; an image that `lab drive` made gets one more life: IMAGE.identity says \"unit: lab drive\"", "IMAGE", PATH),
             option("--scenario", "write the inputs of the unit as a scenario for `etcs run`", "OUT.json", PATH), FORCE),
-    Command("campaign", "simulation", "cli.campaign_commands:play_campaign", "Run many scenarios, case files or random lives into one table",
+    Command("campaign", "cli.campaign_commands:play_campaign", "Run many scenarios, case files or random lives into one table",
             "Each is a row of an SQLite table. Rows that exist aren't run again, so an interrupted campaign continues. Status 4: a row isn't sound.",
             "campaign suites campaign.db --random 1000",
             Argument("paths", "[FOLDER] OUT.db", "run the case files and scenarios below FOLDER", nargs=-1, callback=folder_and_table, expose_value=False),
@@ -296,13 +297,13 @@ SIMULATION = [
             JOBS, option("--scheduler", "use this Dask scheduler instead of local processes", "tcp://HOST:PORT"),
             option("--csv", "write the whole table at the end", "OUT.csv", PATH),
             FORCE),
-    Command("compare", "simulation", "cli.campaign_commands:compare_campaigns", "List the rows that differ between two campaigns",
+    Command("compare", "cli.campaign_commands:compare_campaigns", "List the rows that differ between two campaigns",
             "Seconds and workers aren't compared. Status 4: rows differ.", "compare monday.db friday.db",
             Argument("first", "ONE.db", "a table of `lab campaign`"), Argument("second", "OTHER.db", "the table to compare it with"))]
 UNITS = [
-    Command("serve", "units", "cli.unit_commands:serve", "Run the onboard unit as a server on standard input and output",
+    Command("serve", "cli.unit_commands:serve", "Run the onboard unit as a server on standard input and output",
             "It speaks the protocol of docs/howto/oracle.md. The unit is the library that `tools/library PREFIX` makes; GAKNIFUR_ETCS_UNIT names its .so.", "serve"),
-    Command("against", "units", "cli.unit_commands:against", "Replay a journal against another unit and compare the answers",
+    Command("against", "cli.unit_commands:against", "Replay a journal against another unit and compare the answers",
             "Status 4: an answer differs, or the unit broke the protocol.", 'against image "./my_unit --oracle"',
             IMAGE, Argument("command", "COMMAND", "a command with its arguments that speaks the protocol of docs/howto/oracle.md", type=str), JSON_LINES, WITHIN)]
 EPILOG = """\
@@ -312,8 +313,7 @@ Exit status:
   1  refused: the input isn't valid, or the output can't be written
   2  wrong arguments
   3  a file, the device or a program that is needed failed
-  4  done, and something was found: an image is damaged or its replay
-     differs, a test failed, lint has findings, evidence was altered
+  4  done, and something was found (docs/reference/refusals.md lists what)
   5  an internal error of lab
 
 `lab COMMAND --help` describes a command; docs/reference/lab.md lists the page for each. Everything readable of a damaged image is
@@ -323,4 +323,4 @@ printed, and standard error says what is wrong. Take a digest of an image before
 Completion: eval "$(_LAB_COMPLETE=bash_source lab)", also with zsh_source;
 _LAB_COMPLETE=fish_source lab | source"""
 lab = Lab([*JOURNAL, *EVIDENCE, *TESTING, *SIMULATION, *UNITS], params=[VERSION, HELP], epilog=EPILOG,
-          help="Make tables, databases and reports of an onboard unit's journals, and run test cases.")
+          help="Test an onboard unit, and investigate its journals.")

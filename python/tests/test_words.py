@@ -122,6 +122,24 @@ class Wrong(unittest.TestCase):
             command.make_context(name, words)
 
 
+class Telegrams(unittest.TestCase):
+    """`lab telegram`."""
+
+    def test_the_bytes(self) -> None:
+        """A revocation of restriction 8 by hand (SUBSET-026, 7.4.2 and 8.4.2): header, packet 66 for both directions, end mark, zeros."""
+        bits = "1 0010000 0 000 000 00 11111111 0000000001 00000000000010 1 01000010 10 0000000011111 00001000 11111111 0000000".replace(" ", "")
+        with contextlib.redirect_stdout(io.StringIO()) as output:
+            self.assertEqual(main(["telegram", "NID_BG 2; 66: NID_TSR 8"]), 0)
+        self.assertEqual(output.getvalue(), f"{int(bits, 2):024X}\n")
+
+    def test_a_mistake(self) -> None:
+        for text, message in (("NID_BG 2; 66: NID_TRS 8", "lab: telegram: packet 66 has no NID_TRS; did you mean \"NID_TSR\"?"),
+                              ("NID_BG 2; 66: Q_DIR 3, NID_TSR 8", "lab: telegram: etcs decode says of this telegram: refused 3 Spare; packet 66: Q_DIR 3 is not allowed, only 0 to 2")):
+            with contextlib.redirect_stderr(io.StringIO()) as errors, contextlib.redirect_stdout(io.StringIO()) as output:
+                self.assertEqual((main(["telegram", text]), output.getvalue()), (1, ""))
+            self.assertTrue(errors.getvalue().startswith(message), errors.getvalue())
+
+
 class Completion(unittest.TestCase):
     """A shell completes each command and each option of the help, and nothing else."""
 

@@ -53,6 +53,7 @@ ROWS = """\
 1 etcs_lab check empty
 1 lab table empty out.csv
 1 lab build bad.yaml
+1 lab telegram x
 1 lab lint bad.yaml
 1 lab report --life 9 image out.html
 1 lab test --section 3.99 good

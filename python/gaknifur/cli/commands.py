@@ -36,7 +36,8 @@ class Natural(click.ParamType):
 
 NATURAL = Natural(0, 999_999_999)
 SECTIONS = {"Laboratory": ("build", "test", "case", "coverage", "lint", "drive", "campaign", "compare", "search", "against", "serve"),
-            "Investigation": ("why", "check", "report", "table", "database", "seal", "verify")}
+            "Investigation": ("why", "check", "report", "table", "database", "seal", "verify"),
+            "Telegrams": ("telegram",)}
 """The commands in the order of the help."""
 
 
@@ -306,6 +307,9 @@ UNITS = [
     Command("against", "cli.unit_commands:against", "Replay a journal against another unit and compare the answers",
             "Status 4: an answer differs, or the unit broke the protocol.", 'against image "./my_unit --oracle"',
             IMAGE, Argument("command", "COMMAND", "a command with its arguments that speaks the protocol of docs/howto/oracle.md", type=str), JSON_LINES, WITHIN)]
+TELEGRAM = Command("telegram", "cli.testing_commands:print_telegram", "Print the bytes of a telegram that is given by its variables",
+                   "The text is that of a scenario (docs/reference/test-cases.md). `etcs decode` has to find the same variables in the bytes.",
+                   'telegram "NID_BG 2; 66: NID_TSR 8"', Argument("text", "TEXT", "the variables of the telegram", type=str))
 EPILOG = """\
 \b
 Exit status:
@@ -322,5 +326,5 @@ printed, and standard error says what is wrong. Take a digest of an image before
 \b
 Completion: eval "$(_LAB_COMPLETE=bash_source lab)", also with zsh_source;
 _LAB_COMPLETE=fish_source lab | source"""
-lab = Lab([*JOURNAL, *EVIDENCE, *TESTING, *SIMULATION, *UNITS], params=[VERSION, HELP], epilog=EPILOG,
+lab = Lab([*JOURNAL, *EVIDENCE, *TESTING, *SIMULATION, *UNITS, TELEGRAM], params=[VERSION, HELP], epilog=EPILOG,
           help="Test an onboard unit, and investigate its journals.")

@@ -1,4 +1,4 @@
-"""The commands about test cases: `build`, `case`, `test` and `coverage`."""
+"""The commands about test cases and what they consist of: `build`, `telegram`, `case`, `test` and `coverage`."""
 import contextlib
 import difflib
 import hashlib
@@ -20,6 +20,15 @@ def write_scenario(given: SimpleNamespace, progress: Progress) -> None:
     from ..testing import scenarios
     out = out_of(given, given.yaml)
     write(out, scenarios.read(given.yaml).text(), given.yaml)
+
+
+def print_telegram(given: SimpleNamespace, progress: Progress) -> None:
+    """Runs `lab telegram`."""
+    from ..testing import scenarios, telegrams
+    try:
+        print(scenarios.encoded(given.text))
+    except telegrams.Wrong as wrong:
+        raise Failed(f"telegram: {wrong}", REFUSED) from wrong
 
 
 def write_case(given: SimpleNamespace, progress: Progress) -> int:

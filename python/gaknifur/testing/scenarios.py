@@ -161,27 +161,28 @@ def written(text: str, at: Value, refused: str | None) -> str:
     """The digits of a telegram that is given by its variables. `etcs decode` has to find the same variables, or to refuse it as the
     scenario says."""
     try:
-        telegram = telegrams.telegram(text)
-        digits = telegram.digits
+        if refused is None:
+            return encoded(text)
+        digits = telegrams.telegram(text).digits
     except telegrams.Wrong as wrong:
         raise at.fault(str(wrong)) from wrong
     found = program.decode(digits)
-    if refused is not None:
-        if found != [f"refused {refused}"]:
-            raise at.fault(f"the telegram was to be refused with {refused}, and etcs decode says: {found[0]}")
-        return digits
-    compare(telegram, found, at)
+    if found != [f"refused {refused}"]:
+        raise at.fault(f"the telegram was to be refused with {refused}, and etcs decode says: {found[0]}")
     return digits
 
 
-def compare(telegram: telegrams.Telegram, found: list[str], at: Value) -> None:
-    """Refuses a telegram if `etcs decode` finds another one."""
+def encoded(text: str) -> str:
+    """The digits of a telegram that is given by its variables. Raises `Wrong` if `etcs decode` doesn't find the same variables."""
+    telegram = telegrams.telegram(text)
+    found = program.decode(telegram.digits)
     if found[0].startswith("refused"):
         wrong = wrong_variable(telegram) if found[0].endswith(("Spare", "OutOfRange")) else ""
-        raise at.fault(f"etcs decode says of this telegram: {found[0]}{wrong}")
+        raise telegrams.Wrong(f"etcs decode says of this telegram: {found[0]}{wrong}")
     for wanted, line in zip(telegram.lines(), found[:-1], strict=False):
         if line != wanted:
-            raise at.fault(f"etcs decode finds another telegram: {line}; the scenario says {wanted}")
+            raise telegrams.Wrong(f"etcs decode finds another telegram: {line}; the text says {wanted}")
+    return telegram.digits
 
 
 def wrong_variable(telegram: telegrams.Telegram) -> str:

@@ -79,7 +79,7 @@ class Messages(unittest.TestCase):
 
     def test_a_unit_of_version_1(self) -> None:
         with self.assertRaisesRegex(protocol.Wrong, "^version 1 of the protocol, and lab speaks version 2$"):
-            protocol.greeting_of(line({"protocol": 1, "unit": "x", "tells": ["mode", "brake"]}))
+            protocol.greeting_of(line({"protocol": 1, "unit": "x", "says": ["mode", "brake"]}))
 
 
 class Processes(unittest.TestCase):

@@ -11,7 +11,7 @@ from ..journal.reading import Json
 from ..journal.wording import INDICATIONS, MODES
 
 PROTOCOL = 2
-"""The version. In version 1 the greeting of a unit had `tells` in place of `members`."""
+"""The version. In version 1 `members` of the greeting had another name."""
 ANSWER = ("mode", "level", "brake", "indications", "place_cm", "uncertainty_cm", "limit_m_per_h")
 """The members of an answer, in the order in which they are compared."""
 NEEDED = ("mode", "brake")

@@ -21,7 +21,7 @@ from program_rows import TOP, read, text_of
 
 GATE, LAST_OF_HEAD = 0, 2 * SECTOR_BYTES - 1
 # How many images are compared at least, and how many damaged ones.
-LEAST = (42, 1_250)
+LEAST = (40, 1_200)
 
 
 def live(disk, scenario):

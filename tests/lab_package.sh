@@ -20,6 +20,5 @@ status=0
 "$python" tests/lab_package/case_rows.py "$etcs" "$lab" || status=1
 "$python" tests/lab_package/status_rows.py "$etcs" "$lab" || status=1
 tools/commands "$lab" || status=1
-"$python" tests/lab_package/release_rows.py || status=1
 "$python" tests/lab_package/campaign_rows.py "$etcs" "$lab" || status=1
 exit $status

@@ -1,13 +1,9 @@
 #!/usr/bin/env python3
-"""The exit statuses of the programs, compared with the two tables of docs/reference/refusals.md (Exit statuses).
+"""The exit statuses of the programs (docs/reference/refusals.md): each row is a command and the status that its meaning asks for.
 
     tests/lab_package/status_rows.py ETCS ETCS_LAB
-
-Each row is a command and the status that its meaning asks for. Every mark of the first table, and every command of the
-second one, has a row; no row has a status that the tables don't give its program.
 """
 import os
-import re
 import shutil
 import subprocess
 import sys
@@ -18,7 +14,6 @@ TOP = Path(__file__).resolve().parents[2]
 sys.path[:0] = [str(TOP / part) for part in ("python", "tests")]
 
 from compared import Compared  # noqa: E402
-from release_rows import release  # noqa: E402
 
 BRAKE_OF_7 = 512 + 2 * 3072 + 1024 + 6 * 256 + 2
 """The byte of the example trip in which event 7 has its brake (tests/lab_package/verdict_rows.py)."""
@@ -130,7 +125,9 @@ def rooms(room, etcs, env):
     (room / "empty").write_bytes(bytes(len(data)))
     (room / "plain.json").write_text('{"cold": 0, "groups": [], "steps": []}')
     (room / "tmp").mkdir()
-    release(room)
+    (room / "release").mkdir()
+    (room / "release/provenance.json").write_text('{"proved": false}')
+    run("sh", "-c", "cd release && sha256sum provenance.json >SHA256SUMS")
     (room / "bad.yaml").write_text("steps: [")
     (room / "twice.json").write_text('{"cold": 0, "cold": 0, "groups": [], "steps": []}')
     for name, brake in (("good", "emergency"), ("fails", "none")):
@@ -160,26 +157,10 @@ def status_of(room, words, programs, env):
     return done.returncode, (done.stdout + done.stderr)[-500:]
 
 
-def tables():
-    """The marks of the first table, as pairs of status and program; and the commands of the second one."""
-    text = (TOP / "docs/reference/refusals.md").read_text().split("## Exit statuses", 1)[1].split("\n## ", 1)[0]
-    rows = [[cell.strip() for cell in line.strip("|").split("|")] for line in text.splitlines() if line.startswith("|")]
-    programs = [name.strip("`") for name in rows[0][2:]]
-    marks = {(int(row[0]), name) for row in rows if row[0].isdigit() for name, mark in zip(programs, row[2:]) if mark == "yes"}
-    found = set()
-    for row in rows:
-        if len(row) == 2 and row[0].startswith("`"):
-            program = ""
-            for word in re.findall("`([^`]*)`", row[0]):
-                program, _, command = word.rpartition(" ") if " " in word else ("" if "/" in word else program, "", word)
-                found.add(f"{program} {command}".strip())
-    return marks, found
-
-
 def main(words):
     etcs, etcs_lab = (str(Path(word).resolve()) for word in words)
     env = os.environ | {"GAKNIFUR_ETCS": etcs, "GAKNIFUR_ETCS_LAB": etcs_lab}
-    count, seen, findings = Compared(), set(), set()
+    count = Compared()
     with tempfile.TemporaryDirectory() as at:
         room = Path(at)
         rooms(room, etcs, env)
@@ -187,12 +168,6 @@ def main(words):
             status, *row = line.split()
             found, text = status_of(room, row, {"etcs": etcs, "etcs_lab": etcs_lab}, env)
             count.unless(found == int(status), f"{' '.join(row)}: status {found}, wanted {status}: {text}")
-            seen.add((int(status), row[0]))
-            if status == "4":
-                findings.add(row[0] if "/" in row[0] else " ".join(row[:2]))
-    marks, commands = tables()
-    count.same("marks of the first table", sorted(marks), sorted(seen))
-    count.same("commands of the second table", sorted(commands), sorted(findings))
     return count.end(f"exit statuses: {count.count} comparisons")
 
 

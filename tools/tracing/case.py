@@ -108,5 +108,5 @@ def page(case):
     yield "\n[The README of safety_laws](../../crates/safety_laws/README.md#what-they-dont-say) has what the laws don't say."
     yield "\n## The tools, and what is trusted of them\n"
     yield ("Classes are those of EN 50128: T1, nothing of the tool comes into what runs; T2, a fault of it may hide a\n"
-           'fault; T3, a fault of it may put one into what runs. "Beside" is no tool: it runs with the product. None was\nqualified.\n')
+           'fault; T3, a fault of it may put one into what runs. "Runtime" is no tool: it runs with the product. None was\nqualified.\n')
     yield from table(("Tool", "Class", "Does", "Trusted is", "If it were wrong", "What would show it"), ([it[key] for key in TOOL] for it in case.tools))

@@ -267,7 +267,7 @@ def rear_that_is_forgotten(judged: Judged) -> Iterator[Finding]:
         for one in before.restrictions:
             if is_under(one, event.record, before.train["length_cm"]):
                 yield Finding(6, event.pointer, f"a train of {metres(before.train['length_cm'])} enters {event.record['mode']} over restriction "
-                              f"{one.line['number']}; restrictions more than 1 km behind its front are forgotten",
+                              f"{one.line['number']}; restrictions more than 1 km behind the train are forgotten",
                               "let no train longer than 1 km enter SB or SH there")
 
 

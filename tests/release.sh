@@ -19,7 +19,7 @@ ends() {
     tried=$((tried + 1))
     "${@:4}" >"$room/printed" 2>&1 </dev/null
     local got=$?
-    [ $got = "$1" ] && grep -qF -e "$3" "$room/printed" || { fails "$2: status $got, and not $1 with \"$3\":"; head -n 20 "$room/printed"; }
+    [ $got = "$1" ] && { [ -z "$3" ] || grep -qF -e "$3" "$room/printed"; } || { fails "$2: status $got, and not $1 with \"$3\":"; head -n 20 "$room/printed"; }
 }
 
 # ---- two folders with this folder's files, of one commit, and with what was built of them

@@ -1,6 +1,5 @@
 """Tables as workbooks."""
 import unittest
-from pathlib import Path
 
 import openpyxl
 import pandas as pd

@@ -8,8 +8,8 @@ import re
 from functools import cache
 from pathlib import Path
 
-from decoded import LONGEST, Fault, Fields, packet
-from named import INSTALLED, WIDTH
+from decoded import Fault, Fields, packet
+from named import WIDTH
 
 HEADER_BITS, HEAD_BITS, MOST = 50, 23, 34
 PAGE = Path(__file__).resolve().parents[2] / "docs/reference/packets.md"

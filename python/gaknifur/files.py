@@ -381,6 +381,15 @@ def made(kind: Database, fill: Callable[[sqlite3.Connection], None]) -> bytes:
         connection.close()
 
 
+@contextlib.contextmanager
+def sqlite_errors(path: Path) -> Iterator[None]:
+    """Raises an error of SQLite inside the block as `Failed`: the database was altered, say, or can't be written."""
+    try:
+        yield
+    except (sqlite3.Error, UnicodeError) as error:
+        raise Failed(f"{path}: {error}", DEVICE) from error
+
+
 def check_database(path: Path, kind: Database, inputs: Iterable[Path] = ()) -> bool:
     """Whether the database exists. Refuses a file that isn't such a database."""
     found = status_of(path)
@@ -396,7 +405,7 @@ def open_database(path: Path, kind: Database, fill: Callable[[sqlite3.Connection
                   is_by_hand: bool = False) -> sqlite3.Connection:
     """Opens a database. A new file is made whole or not at all, also if two programs make it at once. With `is_by_hand` the caller
     begins its transactions."""
-    try:
+    with naming(path), sqlite_errors(path):
         if not check_database(path, kind, inputs):
             try:
                 write_new(path, made(kind, fill))
@@ -406,14 +415,12 @@ def open_database(path: Path, kind: Database, fill: Callable[[sqlite3.Connection
         if is_by_hand:
             connection.isolation_level = None
         return connection
-    except OSError as error:
-        raise Failed(f"{path}: {error.strerror}", DEVICE) from error
-    except sqlite3.Error as error:
-        raise Failed(f"{path}: {error}", DEVICE) from error
 
 
-def read_database(path: Path, kind: Database) -> sqlite3.Connection:
-    """Opens a database for reading only."""
+@contextlib.contextmanager
+def read_database(path: Path, kind: Database) -> Iterator[sqlite3.Connection]:
+    """A database that is opened for reading only."""
     if not check_database(path, kind):
         raise Failed(f"{path}: no such file", DEVICE)
-    return sqlite3.connect(address(path, "ro"), uri=True, timeout=WAIT_SECONDS)
+    with sqlite_errors(path), contextlib.closing(sqlite3.connect(address(path, "ro"), uri=True, timeout=WAIT_SECONDS)) as connection:
+        yield connection

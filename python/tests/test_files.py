@@ -23,7 +23,7 @@ from gaknifur.cli.commands import lab
 from gaknifur.files import Out
 from gaknifur.journal import database, layout, tables
 from gaknifur.program import DEVICE, REFUSED, Failed
-from gaknifur.simulation import campaign_table, closed_loop, drives
+from gaknifur.simulation import campaign, campaign_table, closed_loop, drives
 from gaknifur.simulation.driving import Driven
 from gaknifur.testing.scenarios import Scenario
 from gaknifur.unit import Medium, MemoryMedium
@@ -439,6 +439,26 @@ class Databases(Room):
                     connection.set_progress_handler(lambda: True, 10_000_000)
                     database.add(connection, journal(record(0, "powerup")), tables.frame(journal(record(0, "powerup"))))
                 self.assertNotIn("interrupted", str(found.exception))
+
+    def test_altered_tables_of_a_campaign_are_refused(self) -> None:
+        def is_there() -> bool:
+            return campaign_table.Table(path, {}).is_there(campaign.Job("a", "scenario", (), None))
+
+        uses: tuple[Callable[[], object], ...] = (
+            is_there, lambda: list(campaign_table.rows_of(path)), lambda: campaign_table.unsound(path, 1), lambda: campaign_table.refused(path),
+            lambda: campaign_table.write_csv(path, Out(self.room / "out.csv", True)), lambda: list(campaign_table.differences(path, path)))
+        for table, column, used in (("result", "ended", uses), ("campaign", "value", uses[:1])):
+            for statement in (f"DROP TABLE {table}", f"UPDATE {table} SET {column} = 'refused ' || CAST(x'ff' AS TEXT)"):
+                path = self.room / f"{table} {statement[:4]}"
+                campaign_table.Table(path, {"a": "b"}).close()
+                with contextlib.closing(sqlite3.connect(path)) as connection:
+                    connection.execute("INSERT INTO result (name, job_sha256, kind, ended, sound) VALUES ('a', 'b', 'scenario', 'refused 2 Shape', 0)")
+                    connection.execute(statement)
+                    connection.commit()
+                for at, use in enumerate(used):
+                    with self.subTest(statement, use=at), self.assertRaisesRegex(Failed, f"^{path}: ") as found:
+                        use()
+                    self.assertEqual(found.exception.status, DEVICE)
 
     def test_what_is_no_such_database_stays(self) -> None:
         path = self.room / "other"

@@ -321,6 +321,18 @@ class Groups(unittest.TestCase):
             found = [telegram(0, 7, 0), telegram(1, 8, 100_000), telegram(2, 8, 0, life=2), telegram(3, 7, -way, life=2)]
             self.assertEqual(words(found), ["distance"] if is_one else [], way)
 
+    def test_a_group_that_only_an_older_life_read(self) -> None:
+        # Life 1: group 8 is 1,667 m from group 7. Life 2 ends 333 m from group 7, so group 8 is 1,334 m or 2,000 m from there. It may be off by
+        # 10 m, 5 uncertainties of 5 m, and 5 % of 1,667 m, the longest way, or of the way to it in life 3: 118.35 m and 135 m.
+        for way, kept in ((133_400, None), (121_565, None), (121_564, 133_400), (-133_400, None), (213_500, None), (214_500, 200_000),
+                          (166_700, 133_400), (7_500, 133_400)):
+            found = judge([telegram(0, 7, 0), telegram(1, 8, 166_700), telegram(2, 7, 0, life=2), record(3, life=2, place_cm=33_300),
+                           record(4, "powerup", life=3, word="not_moved"), telegram(5, 8, way, life=3)]).findings
+            self.assertEqual([(one["implausible"], one["first_event"], one["last_event"], one["kept_cm"]) for one in found],
+                             [] if kept is None else [("kept", 2, 5, kept)], way)
+        self.assertEqual(plausibility.text(found[0]), "implausible: life 3, events 2 to 5: group 1/8 was read after 75 m, and the train was switched off "
+                         "1334 m from it and hadn't moved")
+
     def test_in_words(self) -> None:
         found = judge([telegram(0, 7, 0), telegram(1, 8, 90_000), telegram(2, 7, 5_000)])
         self.assertEqual(plausibility.text(found.findings[0]), "implausible: life 1, events 0 to 2: group 1/7 was read at another place of the life, 50 m off")

@@ -105,8 +105,8 @@ def damaged(rows):
     (rows.room / "newest").write_bytes(image[:512 * (1 + 6 * 3) + 1024 + 16] + b"\xff" + image[512 * (1 + 6 * 3) + 1024 + 17:])
     rows.page("newest", charts=0, said="lab: newest: something is lost, damaged or contradicts", text=["block 3 can't be read"])
     (rows.room / "short").write_bytes(image[:-512])
-    short = ("lab: short: something is lost, damaged or contradicts: the file has no whole number of slots, and its first sector says 16, "
-             "so a power-up and an examination accept no journal in it; the records are those of each readable slot")
+    early = "ends early: by its first sector it has 16 slots, so 49,664 bytes, and here are 49,152. Copy it from the medium again."
+    short = f"lab: short: something is lost, damaged or contradicts: the file {early} The records are those of each readable slot"
     rows.page("short", charts=EXAMPLES["trip"], said=short)
     rows.run("format", "empty", 4)
     rows.page("empty", charts=0, text=["No block of a journal can be read", "There is nothing to draw"])
@@ -115,7 +115,16 @@ def damaged(rows):
     rows.lab("database", "short", "empty", "again.db", status=4, said=short)
     differs(rows)
     (rows.room / "none").write_bytes(b"x" * 5000)
+    rows.lab("why", "short", status=1, said=f"lab: short: {early}")
     rows.lab("report", "none", "none.html", status=1, said="lab: none: is not a formatted image")
+    (rows.room / "sector0").write_bytes(b"K" + image[1:])
+    unread = "lab: sector0: is not a formatted image. By its size it could have 16 slots: --slots 16 of check, report and why reads it so."
+    for word, *out in (("check",), ("why",), ("report", "none.html"), ("table", "none.csv")):
+        rows.lab(word, "sector0", *out, status=1, said=unread)
+    lost = "lab: sector0: something is lost, damaged or contradicts"
+    for word, wanted in (("check", "life 1 events 0..16 agree"), ("why", "event 8: brake emergency")):
+        rows.same(f"lab {word} --slots", wanted in rows.lab(word, "--slots", "16", "sector0", status=4, said=lost), True)
+    rows.page("sector0", "--slots", "16", charts=EXAMPLES["trip"], said=lost)
     rows.same("no page of what is no image", (rows.room / "none.html").exists(), False)
     rows.lab("report", "missing", "none.html", status=3, said="lab: missing: no such file")
     rows.lab("report", "trip", "no/folder.html", status=3, said="lab: no/folder.html: its folder doesn't exist")

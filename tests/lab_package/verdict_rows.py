@@ -99,6 +99,7 @@ def honest(rows, room):
   the limit is that of the end of authority: 0 km/h at 300 m (3.8, 3.13)
   did it brake? no brake is commanded
 """, 0)))
+    rows.same("why of a broken way", run("why", image)[1:], (f"lab: {image}: the train braked less than its train data promise: life 1, event 8, in way\n", 4))
     rows.unless("Implausible" not in (room / "h.html").read_text(), "the report finds something")
     for page in ("h.html", "h.bag/data/report.html"):
         rows.unless("unit 17, vehicle 402 001, by the file next to the image" in (room / page).read_text(), f"{page} doesn't say whose it is")

@@ -189,6 +189,7 @@ VERSION = click.Option(["--version"], is_flag=True, is_eager=True, expose_value=
 IMAGE = Argument("image", "IMAGE", "a journal image")
 ALL = option("--all other_blocks", "include readable blocks outside the journal; column `source` marks them")
 ANONYMOUS = option("--anonymous", "leave out the driver's identity, the running number, and name, SHA-256 and identity of the image")
+SLOTS = option("--slots", "read it as an image of N slots, whatever its first sector says", "N", Natural(2, 1_048_576))
 FORCE = option("--force", "overwrite an existing file, but never a journal image")
 JSON = option("--json", "print JSON")
 JSON_LINES = option("--json", "print one JSON object per line")
@@ -212,11 +213,11 @@ JOURNAL = [
             IMAGE, Argument("out", "OUT.html", "the page to make"),
             option("--from first", "start at this event (120), place (300m) or moment (20.5s)", "WHERE"),
             option("--to last", "end at this event, place or moment", "WHERE"), option("--life", "report only this power cycle (life)", "N", int),
-            FORCE, *TIMES, option("--newest-first", "list the lives from the last to the first"), ANONYMOUS),
+            SLOTS, FORCE, *TIMES, option("--newest-first", "list the lives from the last to the first"), ANONYMOUS),
     Command("check", "cli.journal_commands:check_image", "Examine and replay an image, and list what is implausible",
             "Prints what `etcs_lab check` prints, and then implausible values, such as a movement that the recorded speeds don't explain. Status 4: "
             "something is lost, damaged, contradictory, different or implausible, as all commands about the image report it.", "check image",
-            IMAGE, JSON, *(Setting(f"--{name.replace('_', '-')}", help, unit, int, f"journal.plausibility:Thresholds.{name}") for name, unit, help in (
+            IMAGE, SLOTS, JSON, *(Setting(f"--{name.replace('_', '-')}", help, unit, int, f"journal.plausibility:Thresholds.{name}") for name, unit, help in (
                 ("path_cm", "CM", "tolerated error of a movement in cm"), ("path_percent", "N", "plus this percentage"),
                 ("safe_m_per_h", "M/H", "how much the speed given to the unit may be above the true one, in m/h"),
                 ("acceleration_cm_per_s2", "CM/S2", "greatest plausible change of speed in cm/s²"),
@@ -227,7 +228,7 @@ JOURNAL = [
     Command("why", "cli.journal_commands:explain", "Explain each brake command, and say whether the train braked",
             "The causes and trips are those of `etcs_lab why`; docs/reference/lab.md defines the figures. Status 4: it took longer or farther than "
             "the train data promise, or `lab check` finds something.", "why image 120",
-            IMAGE, Argument("event", "[EVENT]", "the number of one event (default: each brake command)", NATURAL, required=False), JSON_LINES)]
+            IMAGE, Argument("event", "[EVENT]", "the number of one event (default: each brake command)", NATURAL, required=False), SLOTS, JSON_LINES)]
 EVIDENCE = [
     Command("seal", "cli.evidence_commands:seal_image", "Seal an image with all reports about it in a folder of evidence",
             "Reads the image once and never writes to it. FOLDER has to be new. Status 4: the folder is made, and something in the image is lost, "

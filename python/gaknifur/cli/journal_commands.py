@@ -13,7 +13,7 @@ from types import SimpleNamespace
 from .. import files, program
 from ..errors import say
 from ..journal import anonymous, braking, plausibility, verdict, why
-from ..journal.reading import Journal, Progress, check, objects, parsed_all, read
+from ..journal.reading import Journal, Progress, check, check_size, failed, objects, parsed_all, read, with_slots
 from ..journal.verdict import Verdict
 from ..program import DEVICE, NOT_WHOLE, REFUSED, WHOLE, WRONG_WORDS, Failed, Run
 
@@ -118,7 +118,7 @@ def write_report(given: SimpleNamespace, progress: Progress) -> int:
     extent = Extent(bound(given.first) if given.first else None, bound(given.last) if given.last else None, given.life)
     out = out_of(given, given.image)
     part = None if marks_need_all(given) else extent.part
-    journal = read(given.image, replay=True, why=True, progress=progress, strays=True, part=part)
+    journal = read(given.image, replay=True, why=True, progress=progress, strays=True, part=part, slots=given.slots)
     take_times(journal, given)
     from ..journal import report
     handed_out = anonymous.of(journal) if given.anonymous else journal
@@ -130,9 +130,9 @@ def judge(given: SimpleNamespace, progress: Progress) -> int:
     """Prints implausible values and the verdict; returns the status."""
     limits = plausibility.Thresholds(**{one.name: getattr(given, one.name) for one in fields(plausibility.Thresholds)})
     records = plausibility.Judge(limits)
-    examination, replay = check(given.image, progress)
-    journal = Journal(given.image, examination, replay=replay)
-    objects(["events"], given.image, lambda line: records.add(line) if "event" in line else None)
+    examination, replay = check(given.image, progress, given.slots)
+    journal = Journal(given.image, examination, replay=replay, slots_given=given.slots)
+    objects(["events", *with_slots(given.slots)], given.image, lambda line: records.add(line) if "event" in line else None)
     found = records.end()
     judged = Verdict(verdict.faults(journal), found.findings)
     lines = [*map(json.dumps, found.findings), json.dumps(plausibility.as_json(found, limits)), json.dumps(judged.as_json())] if given.json else \
@@ -143,12 +143,13 @@ def judge(given: SimpleNamespace, progress: Progress) -> int:
 
 def check_image(given: SimpleNamespace, progress: Progress) -> int:
     """Runs `lab check`."""
-    run = Run(["check", *(["--json"] if given.json else [])], given.image)
+    check_size(given.image, given.slots)
+    run = Run(["check", *(["--json"] if given.json else []), *with_slots(given.slots)], given.image)
     for line in run.lines():
         sys.stdout.write(line.removesuffix("\n") + "\n")
     sys.stdout.flush()
     if run.status not in (WHOLE, NOT_WHOLE) and (run.messages or run.status not in (REFUSED, DEVICE)):
-        raise run.failed(given.image)
+        raise failed(run, given.image, given.slots)
     if run.status not in (WHOLE, NOT_WHOLE):
         return run.status
     return max(run.status, judge(given, progress))
@@ -156,18 +157,21 @@ def check_image(given: SimpleNamespace, progress: Progress) -> int:
 
 def explain(given: SimpleNamespace, progress: Progress) -> int:
     """Runs `lab why`."""
-    journal = read(given.image, replay=True, why=True, progress=progress)
+    journal = read(given.image, replay=True, why=True, progress=progress, slots=given.slots)
     event = [] if given.event is None else [str(given.event)]
-    run = Run(["why", *(["--json"] if given.json else [])], given.image, *event)
+    run = Run(["why", *(["--json"] if given.json else []), *with_slots(given.slots)], given.image, *event)
     lines = run.all_lines()
     texts = {} if given.json else why.paragraphs(lines)
     found = list(why.explained(journal)) if given.event is None else \
         list(why.of_event(journal, given.event, parsed_all(lines, "why") if given.json else [{"event": one} for one in texts]))
     if run.status not in (WHOLE, NOT_WHOLE) or given.event is not None and not found:
-        raise run.failed(given.image)
+        raise failed(run, given.image, given.slots)
     if not found:
         say(f"{given.image}: no record commands a brake")
         return note(journal) or REFUSED
     sys.stdout.writelines(f"{json.dumps(one.as_json())}\n" if given.json else one.text(texts) for one in found)
     sys.stdout.flush()
-    return max(note(journal), NOT_WHOLE if any(one.braking and braking.is_broken(one.braking) for one in found) else WHOLE)
+    broken = [one.braking for one in found if one.braking and braking.is_broken(one.braking)]
+    if broken:
+        say(f"{given.image}: {braking.broken_text(broken)}")
+    return max(note(journal), NOT_WHOLE if broken else WHOLE)

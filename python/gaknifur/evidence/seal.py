@@ -140,7 +140,7 @@ def parts_text(data: Path) -> str:
 def draw(data: Path, name: str, drift_ppm: int, progress: Progress) -> Verdict:
     """Makes table, database and report of a bag's image, under the image's original name; returns its verdict."""
     times = data / TIMES
-    journal = read(data / IMAGE, replay=True, why=True, progress=progress, strays=True)
+    journal = read(data / IMAGE, replay=True, why=True, progress=progress, strays=True, is_own=True)
     if times.is_file():
         journal.times = Times.of(journal, times, drift_ppm)
     journal.identity = identity.of(data / IMAGE)

@@ -297,3 +297,10 @@ def promise_text(one: Json) -> str:
 def is_broken(one: Json) -> bool:
     """Whether a command took longer, or farther, than the train data promise."""
     return BROKEN in (one[name] for name in PROMISES)
+
+
+def broken_text(rows: list[Json]) -> str:
+    """The sentence about commands of which a promise is broken: the first of them."""
+    names = " and ".join(name for name in PROMISES if rows[0][name] == BROKEN)
+    more = f", and {len(rows) - 1} more" if rows[1:] else ""
+    return f"the train braked less than its train data promise: life {rows[0]['life']}, event {rows[0]['first_event']}, in {names}{more}"

@@ -62,12 +62,13 @@ def open_database(path: str | Path, images: Iterable[Path] = ()) -> sqlite3.Conn
     """Opens a database, or creates it. Refuses a file that is one of the images, or a database of another kind."""
     connection = files.open_database(Path(path), files.JOURNALS, fill, images, is_by_hand=True)
     try:
-        connection.execute("PRAGMA foreign_keys = ON")
-        version = connection.execute("PRAGMA user_version").fetchone()[0]
-        altered = connection.execute(ALTERED).fetchone()
-    except (sqlite3.Error, UnicodeError) as error:
+        with files.sqlite_errors(Path(path)):
+            connection.execute("PRAGMA foreign_keys = ON")
+            version = connection.execute("PRAGMA user_version").fetchone()[0]
+            altered = connection.execute(ALTERED).fetchone()
+    except Failed:
         connection.close()
-        raise Failed(f"{path}: {error}", DEVICE) from error
+        raise
     if version != VERSION or altered:
         connection.close()
         wrong = "has a trigger, or a view in place of a table" if altered else f"is not a database of journals of version {VERSION}"

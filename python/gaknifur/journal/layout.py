@@ -12,6 +12,13 @@ def first_sector(slots: int) -> bytes:
     return (MARK + VERSION.to_bytes(4, "big") + slots.to_bytes(4, "big")).ljust(SECTOR, b"\0")
 
 
+def slots_of(first: bytes) -> int | None:
+    """The number of slots in a first sector; None if it isn't one."""
+    slots = int.from_bytes(first[12:16], "big")
+    is_one = len(first) >= SECTOR and first.startswith(MARK) and int.from_bytes(first[8:12], "big") in (1, VERSION) and not any(first[16:SECTOR])
+    return slots if is_one and LEAST_SLOTS <= slots <= MOST_SLOTS else None
+
+
 def slot_at(slot: int) -> int:
     """The byte at which a slot begins."""
     return SECTOR + SLOT * slot

@@ -260,20 +260,37 @@ def places(lives: list[Passed], limits: Thresholds) -> Iterator[Json]:
 
 
 def kept(lives: list[Passed], limits: Thresholds) -> Iterator[Json]:
-    """Groups that a train passed before a power-up, and read again at another distance from where it was switched off, although it hadn't
-    moved. It may have turned round since."""
+    """Groups that are read at another distance from where the train was switched off than before, although it hadn't moved. It may have turned
+    round since. If the life before didn't read the group, an older life knows how far it is from one that was read."""
+    seen: dict[Any, dict[int, Json]] = {}
     for before, life in pairwise(lives):
-        if not life.is_kept or before.end_cm is None or before.life + 1 != life.life:
-            continue
-        at = {one["group"]: one for one in before.groups}
-        for one in life.groups[:1]:
-            other = at.get(one["group"])
-            if other is None:
-                continue
-            away, way = abs(before.end_cm - other["place_cm"]), abs(one["place_cm"])
-            unsure = before.end_uncertainty_cm + other["uncertainty_cm"] + one["uncertainty_cm"]
-            if abs(way - away) > unsure + limits.place_cm + limits.place_percent * max(way, away) / 100:
-                yield group_finding("kept", one, other, abs(way - away)) | {"way_cm": way, "kept_cm": away}
+        if life.is_kept and before.life + 1 == life.life and life.groups:
+            one = life.groups[0]
+            way, found = int(abs(one["place_cm"])), distances(before, one, seen)
+            if found:
+                other, ways, longest, unsure = found
+                away = min(ways, key=lambda known: abs(way - known))
+                if abs(way - away) > unsure + one["uncertainty_cm"] + limits.place_cm + limits.place_percent * max(way, longest) / 100:
+                    yield group_finding("kept", one, other, abs(way - away)) | {"way_cm": way, "kept_cm": away}
+        for read in before.groups:
+            seen.setdefault(read["group"], {}).setdefault(before.life, read)
+
+
+def distances(before: Passed, one: Json, seen: dict[Any, dict[int, Json]]) -> tuple[Json, list[int], int, int] | None:
+    """How far a group may be from the end of a life: the last group of that life whose distance from it is known, the distances (an older life
+    doesn't say on which side of the end it is), the longest way that was measured, and the uncertainties of all."""
+    ends = [(other, abs(before.end_cm - other["place_cm"]), before.end_uncertainty_cm + other["uncertainty_cm"]) for other in reversed(before.groups)
+            if before.end_cm is not None]
+    for other, away, unsure in ends:
+        if other["group"] == one["group"]:
+            return other, [away], away, unsure
+    for other, away, unsure in ends:
+        olds = seen.get(other["group"], {}), seen.get(one["group"], {})
+        if known := olds[0].keys() & olds[1].keys():
+            first, second = (old[max(known)] for old in olds)
+            link = int(abs(first["place_cm"] - second["place_cm"]))
+            return other, [abs(link - away), link + away], max(link, away), unsure + first["uncertainty_cm"] + second["uncertainty_cm"]
+    return None
 
 
 def group_finding(word: str, one: Json, other: Json, off: int) -> Json:

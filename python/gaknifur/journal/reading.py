@@ -13,6 +13,7 @@ from typing import TYPE_CHECKING, Any, Protocol, overload
 from ..digests import digest
 from ..escaping import shown
 from ..program import DEVICE, NOT_WHOLE, REFUSED, WHOLE, Failed, Run
+from . import layout, sizes
 from .part import Changes, Part
 
 if TYPE_CHECKING:
@@ -127,6 +128,8 @@ class Journal:
     """The number of records before a part. Between these, records may be left out; so they are of one life without a gap to the part."""
     train: Json | None = None
     """The record of the train data that were entered before a part."""
+    slots_given: int | None = None
+    """The number of slots that the image is read with, if it isn't the one by its first sector."""
 
     @property
     def name(self) -> str:
@@ -248,16 +251,39 @@ def is_small(path: Path) -> bool:
         return False
 
 
-def examine(path: Path) -> Json:
+def with_slots(slots: int | None) -> list[str]:
+    """The arguments of `etcs_lab` that read an image with this number of slots."""
+    return [] if slots is None else ["--slots", str(slots)]
+
+
+def check_size(path: Path, slots: int | None = None) -> None:
+    """Refuses a file that is longer than its journal, before anything reads all of it."""
+    found = sizes.of_file(path)
+    if found and (has := slots or found[1]) and (why := sizes.wrong(found[0], has, slots is not None)) and found[0] > layout.slot_at(has):
+        raise Failed(f"{path}: {why}", REFUSED)
+
+
+def failed(run: Run, path: Path, slots: int | None = None) -> Failed:
+    """The error for a run that failed, with what the size of the file says about a refusal."""
+    found, error = sizes.of_file(path) if run.status == REFUSED else None, run.failed(path)
+    has = slots or (found[1] if found else None)
+    if found and has and (why := sizes.wrong(found[0], has, slots is not None)):
+        return Failed(f"{path}: {why}", REFUSED)
+    if found and not has and (says := sizes.could_have(found[0])):
+        return Failed(f"{error}. {says}", REFUSED)
+    return error
+
+
+def examine(path: Path, slots: int | None = None) -> Json:
     """The output of `etcs_lab examine`."""
     found: list[Json] = []
-    run = objects(["examine", "--json"], path, found.append)
+    run = objects(["examine", "--json", *with_slots(slots)], path, found.append)
     if run.status not in (WHOLE, NOT_WHOLE) or len(found) != 1:
-        raise run.failed(path)
+        raise failed(run, path, slots)
     return found[0]
 
 
-def check(path: Path, progress: Progress) -> tuple[Json, list[Json]]:
+def check(path: Path, progress: Progress, slots: int | None = None) -> tuple[Json, list[Json]]:
     """The output of `etcs_lab check`: the examination, and the lines of the replay; no lines if it was refused."""
     found: list[Json] = []
 
@@ -266,9 +292,9 @@ def check(path: Path, progress: Progress) -> tuple[Json, list[Json]]:
             progress("replay", 0, 0)
         found.append(line)
 
-    run = objects(["check", "--json"], path, step)
+    run = objects(["check", "--json", *with_slots(slots)], path, step)
     if run.status not in (WHOLE, NOT_WHOLE):
-        raise run.failed(path)
+        raise failed(run, path, slots)
     if len(found) < 2 or "check" not in found[-1]:
         raise Failed(f"{path}: the check was cut off", REFUSED)
     examination, *replay, _ = found
@@ -279,9 +305,9 @@ STRAY = ("misplaced", "damaged")
 """Sources of strays."""
 
 
-def listing(other_blocks: bool, strays: bool) -> list[str]:
+def listing(other_blocks: bool, strays: bool, slots: int | None) -> list[str]:
     """The arguments of `etcs_lab` that list the requested records, and perhaps more."""
-    return ["events", *(["--all"] if other_blocks or strays else [])]
+    return ["events", *(["--all"] if other_blocks or strays else []), *with_slots(slots)]
 
 
 def read_events(journal: Journal, other_blocks: bool, strays: bool, progress: Progress, part: Part | None = None) -> None:
@@ -308,7 +334,7 @@ def read_events(journal: Journal, other_blocks: bool, strays: bool, progress: Pr
         elif "end" in line:
             ended = True
 
-    run = objects(listing(other_blocks, strays), journal.path, step, part)
+    run = objects(listing(other_blocks, strays, journal.slots_given), journal.path, step, part)
     if part:
         journal.train = parsed(part.train, "events") if part.train else None
         journal.is_part, journal.lead = True, part.led or 0
@@ -331,7 +357,7 @@ def read_why(journal: Journal, progress: Progress) -> None:
             journal.why.append(line)
 
     changes = Changes(journal.records[journal.lead]["event"], journal.records[-1]["event"]) if journal.is_part else None
-    run = objects(["why", "--json"], journal.path, step, changes)
+    run = objects(["why", "--json", *with_slots(journal.slots_given)], journal.path, step, changes)
     if changes and changes.is_over:
         return
     if run.status == REFUSED and not journal.why:
@@ -341,16 +367,18 @@ def read_why(journal: Journal, progress: Progress) -> None:
 
 
 def read(path: str | Path, other_blocks: bool = False, replay: bool = False, why: bool = False,
-         progress: Progress = silent, strays: bool = False, is_own: bool = False, part: Part | None = None) -> Journal:
-    """The journal in a file. Fails if the image isn't formatted; reads everything readable of a damaged one. Causes are known only
-    with a replay. If the file `is_own`, nothing else writes to it, so it isn't checked for changes. Of a `part` that has a record only that
-    part is read, if the image is whole."""
+         progress: Progress = silent, strays: bool = False, is_own: bool = False, part: Part | None = None, slots: int | None = None) -> Journal:
+    """The journal in a file. Fails if the image isn't formatted or is longer than its journal; reads everything readable of a damaged one. Causes
+    are known only with a replay. If the file `is_own`, nothing else writes to it, so neither its size nor changes are checked. Of a `part` that has
+    a record only that part is read, if the image is whole. With `slots` it is read as if its first sector said so."""
     path = Path(path)
     if not path.exists():
         raise Failed(f"{path}: no such file", DEVICE)
+    if not is_own:
+        check_size(path, slots)
     progress("examination", 0, 0)
-    examination, replayed = check(path, progress) if replay else (examine(path), [])
-    journal = Journal(path, examination)
+    examination, replayed = check(path, progress, slots) if replay else (examine(path, slots), [])
+    journal = Journal(path, examination, slots_given=slots)
     if part and journal.is_whole:
         read_events(journal, False, False, progress, part)
     if not journal.records:

@@ -4,7 +4,7 @@
 from dataclasses import dataclass, field
 
 from ..program import NOT_WHOLE, WHOLE
-from . import causes, plausibility
+from . import causes, plausibility, sizes
 from .reading import Journal, Json
 
 OVERWRITTEN = "before_oldest_block"
@@ -61,14 +61,10 @@ def faults(journal: Journal) -> list[str]:
 
 
 def size_text(journal: Journal) -> str:
-    """The text for a file that has another number of slots than its first sector says; empty for others."""
-    first = journal.image.get("first_sector", {})
-    recorded, has = first.get("slots"), first.get("size_slots")
-    if recorded is None or recorded == has:
-        return ""
-    size = "no whole number of slots" if has is None else f"{has:,} slots"
-    return (f": the file has {size}, and its first sector says {recorded:,}, so a power-up and an examination accept no journal in it; "
-            "the records are those of each readable slot")
+    """The text for a file that hasn't the size of its slots; empty for others."""
+    slots = journal.image["slots"]
+    why = sizes.wrong(journal.image["bytes"], slots, journal.slots_given is not None) if slots else ""
+    return f": the file {why} The records are those of each readable slot" if why else ""
 
 
 def unreplayed(journal: Journal) -> list[str]:

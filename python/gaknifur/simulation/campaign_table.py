@@ -1,4 +1,5 @@
 """Keep the table of a campaign in SQLite: add its rows, list those that aren't sound, write it as CSV, and compare two tables."""
+import contextlib
 import csv
 import heapq
 import io
@@ -41,10 +42,11 @@ class Table:
         self.connection = files.open_database(path, files.CAMPAIGN, fill, is_by_hand=True)
         self.take_alone()
         try:
-            found = dict(self.connection.execute("SELECT name, value FROM campaign"))
-        except sqlite3.DatabaseError as error:
+            with files.sqlite_errors(path):
+                found = dict(self.connection.execute("SELECT name, value FROM campaign"))
+        except Failed:
             self.connection.close()
-            raise Failed(f"{path}: is not a campaign table", REFUSED) from error
+            raise
         for name, value in settings.items():
             if name.endswith("_sha256") and found.get(name) != value:
                 self.connection.close()
@@ -64,33 +66,29 @@ class Table:
 
     def has_rows(self) -> bool:
         """Whether any job was run already."""
-        return self.connection.execute("SELECT 1 FROM result LIMIT 1").fetchone() is not None
+        with files.sqlite_errors(self.path):
+            return self.connection.execute("SELECT 1 FROM result LIMIT 1").fetchone() is not None
 
     def is_there(self, job: Job) -> bool:
         """Whether the table has the row of exactly this job."""
-        found = self.connection.execute("SELECT job_sha256, ended FROM result WHERE name = ?", (job.name,)).fetchone()
+        with files.sqlite_errors(self.path):
+            found = self.connection.execute("SELECT job_sha256, ended FROM result WHERE name = ?", (job.name,)).fetchone()
         return found is not None and found[0] == job.sha256 and not found[1].startswith("failed")
 
     def take(self, rows: list[Row]) -> None:
         """Adds rows; each replaces a row with the same name. They are on the disk within a second."""
-        try:
+        with files.sqlite_errors(self.path):
             self.connection.executemany(INSERT, map(itemgetter(*COLUMNS), rows))
             if time.monotonic() - self.written > COMMIT_SECONDS:
                 self.connection.execute("COMMIT")
                 self.connection.execute("BEGIN IMMEDIATE")
                 self.written = time.monotonic()
-        except sqlite3.Error as error:
-            raise Failed(f"{self.path}: {error}", DEVICE) from error
 
     def close(self) -> None:
         """Commits all rows, also if `take` was interrupted."""
-        try:
+        with contextlib.closing(self.connection), files.sqlite_errors(self.path):
             if self.connection.in_transaction:
                 self.connection.execute("COMMIT")
-        except sqlite3.Error as error:
-            raise Failed(f"{self.path}: {error}", DEVICE) from error
-        finally:
-            self.connection.close()
 
 
 def settings_of() -> dict[str, str]:
@@ -104,51 +102,33 @@ def settings_of() -> dict[str, str]:
 
 def rows_of(path: Path) -> Iterator[Row]:
     """The rows of a table in the order of their names, with the columns that are compared."""
-    connection = files.read_database(path, files.CAMPAIGN)
-    try:
+    with files.read_database(path, files.CAMPAIGN) as connection:
         kept = [name for name in COLUMNS if name not in NOT_COMPARED]
         for row in connection.execute(f"SELECT {', '.join(kept)} FROM result ORDER BY name"):
             yield dict(zip(kept, row))
-    except sqlite3.DatabaseError as error:
-        raise Failed(f"{path}: is not a campaign table", REFUSED) from error
-    finally:
-        connection.close()
 
 
 def unsound(path: Path, most: int) -> tuple[int, int, list[Row]]:
     """The number of rows of a table, the number of those that aren't sound, and the first of these."""
-    connection = files.read_database(path, files.CAMPAIGN)
-    try:
+    with files.read_database(path, files.CAMPAIGN) as connection:
         count, bad = connection.execute("SELECT count(*), count(*) FILTER (WHERE NOT sound) FROM result").fetchone()
         rows = connection.execute("SELECT name, ended, first_missed FROM result WHERE NOT sound ORDER BY name LIMIT ?", (most,))
         return count, bad, [dict(zip(("name", "ended", "first_missed"), row)) for row in rows]
-    except sqlite3.DatabaseError as error:
-        raise Failed(f"{path}: is not a campaign table", REFUSED) from error
-    finally:
-        connection.close()
 
 
 def refused(path: Path) -> tuple[int, str]:
     """The number of scenarios of a table that were refused, so that nothing of them was run, and the first with its refusal."""
-    connection = files.read_database(path, files.CAMPAIGN)
-    try:
+    with files.read_database(path, files.CAMPAIGN) as connection:
         found = connection.execute("SELECT count(*), min(name || ': ' || ended) FROM result WHERE kind = 'scenario' AND ended LIKE 'refused %'")
         count, first = found.fetchone()
         return count, first or ""
-    except sqlite3.DatabaseError as error:
-        raise Failed(f"{path}: is not a campaign table", REFUSED) from error
-    finally:
-        connection.close()
 
 
 def write_csv(path: Path, out: files.Out) -> None:
     """Writes the whole table as CSV, in the order of the names."""
-    connection = files.read_database(path, files.CAMPAIGN)
-    try:
+    with files.read_database(path, files.CAMPAIGN) as connection:
         rows = connection.execute(f"SELECT {', '.join(COLUMNS)} FROM result ORDER BY name")
         files.write(out, map(csv_line, itertools.chain([COLUMNS], rows)), [path])
-    finally:
-        connection.close()
 
 
 def csv_line(row: Iterable[Any]) -> str:

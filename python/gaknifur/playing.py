@@ -5,14 +5,14 @@
 
 Each is an input line of `etcs_lab play` (docs/reference/json.md, Many scenarios): an object with a member `scenario`, which may be a list of scenarios, and
 perhaps `id`, `cold`, `slots` and `sha256`; or only a scenario. The results are the objects that the program prints, in the order of the scenarios. A scenario that can't be run has a
-result too. `play_images` also returns the journal image of each scenario; campaigns and test cases use it.
+result too. `play_images` also returns the journal image of each scenario; searches use it.
 """
 import contextlib
 import json
 import os
 import subprocess
 import threading
-from collections.abc import Callable, Generator, Iterable, Mapping
+from collections.abc import Generator, Iterable, Mapping
 from pathlib import Path
 from typing import IO, Any, Literal
 
@@ -21,19 +21,8 @@ from .program import REFUSED, WHOLE, Failed
 
 Result = dict[str, Any]
 Which = Literal["all", "last", "changes", "none"]
-ReadsResult = Callable[[bytes], Result]
 AHEAD = 8
 """64 times as many images are at most written before they are read: then their results fill the pipe."""
-LONGEST = 1 << 23
-"""The greatest size of a scenario that is written on a line, half of that of the longest line which the program reads."""
-ON_A_LINE = bytes.maketrans(b"\t\n\r", b"   ")
-
-
-class Died(Failed):
-    """The program ended before all scenarios were run and didn't say why: it was killed, or crashed."""
-
-    def __reduce__(self) -> tuple[type[Failed], tuple[str, int]]:
-        return Died, (str(self), self.status)
 
 
 class Feeder(threading.Thread):
@@ -73,7 +62,7 @@ def result_of(line: bytes) -> Result:
     except ValueError:
         found = None
     if not isinstance(found, dict) or not line.endswith(b"\n"):
-        raise Died("etcs_lab play printed a line that isn't a JSON object, or only a part of one", REFUSED)
+        raise Failed("etcs_lab play printed a line that isn't a JSON object, or only a part of one", REFUSED)
     return found
 
 
@@ -81,12 +70,12 @@ def play(scenarios: Iterable[Mapping[str, Any]], *, slots: int = 16, outputs: Wh
          images: Path | None = None) -> Generator[Result, None, None]:
     """The result of each scenario, in order. `slots` is the number of slots of each journal, `outputs` selects the outputs of a result, and
     each journal image is written into the folder `images`. Fails if the program can't do its work: it is missing, there is no scenario,
-    or an image can't be written; with `Died` if it is killed or crashes."""
+    an image can't be written, or it is killed."""
     yield from played(map(line_of, scenarios), slots, outputs, images)
 
 
-def played(lines: Iterable[bytes], slots: int, outputs: Which, images: Path | None, result: ReadsResult = result_of) -> Generator[Result, None, None]:
-    """The result of each input line, which a function reads from the line that is printed."""
+def played(lines: Iterable[bytes], slots: int, outputs: Which, images: Path | None) -> Generator[Result, None, None]:
+    """The result of each input line."""
     words = [program.find(), "play", f"--slots={slots}", f"--outputs={outputs}", *([] if images is None else [f"--images={images}"])]
     count = 0
     with program.message_file() as errors:
@@ -97,7 +86,7 @@ def played(lines: Iterable[bytes], slots: int, outputs: Which, images: Path | No
         feeder.start()
         try:
             for line in process.stdout:
-                yield result(line)
+                yield result_of(line)
                 count += 1
             status = process.wait()
             feeder.join()
@@ -112,55 +101,25 @@ def played(lines: Iterable[bytes], slots: int, outputs: Which, images: Path | No
     if messages:
         raise Failed(messages[-1].removeprefix("etcs_lab: "), status if status > 0 else REFUSED)
     if status not in (WHOLE, REFUSED) or count != feeder.count:
-        raise Died(f"etcs_lab ended with status {status}, after {count} results", status if status > 0 else REFUSED)
+        raise Failed(f"etcs_lab ended with status {status}, after {count} results", status if status > 0 else REFUSED)
 
 
-def on_a_line(scenario: bytes) -> bytes | None:
-    """A scenario's JSON on one line. None if that can't be: it isn't a JSON object, or very long; such a scenario is left to `etcs run`."""
-    def refuse(name: str) -> None:
-        raise ValueError(f"{name} is no number")
-
-    try:
-        is_object = len(scenario) <= LONGEST and isinstance(json.loads(scenario.decode(), parse_constant=refuse), dict)
-    except (ValueError, RecursionError):
-        return None
-    return scenario.translate(ON_A_LINE) if is_object else None
-
-
-def play_images(scenarios: Iterable[tuple[bytes, int]], folder: Path, outputs: Which = "all",
-                result: ReadsResult = result_of) -> Generator[tuple[Result, bytes], None, None]:
-    """The result of each scenario or list of scenarios, which is given as its JSON on one line and its number of slots, and its
-    journal image, that of a list after its last life; no bytes if it can't be run. Until the next result is taken its images are in the folder
-    (`image_in`), which contains no other image."""
-    lines = (b'{"slots":%d,"scenario":%b}' % (slots, one) for one, slots in scenarios)
-    for found in played(lines, 16, outputs, folder, result):
-        paths = [image_in(folder, life) for life in lives_of(found) if life.get("image") is not None]
+def play_images(scenarios: Iterable[bytes], slots: int, folder: Path) -> Generator[tuple[Result, Path | None], None, None]:
+    """The result of each scenario or list of scenarios, which is given as its JSON on one line, and its journal image, that of a list after its
+    last life; None if it can't be run. The image is there until the next result is taken. The folder contains no other image."""
+    for found in played((b'{"scenario":%b}' % one for one in scenarios), slots, "none", folder):
+        paths = [folder / f"{life['image']}.image" for life in lives_of(found) if life.get("image") is not None]
         try:
-            yield found, bytes_of(paths[-1]) if paths else b""
+            yield found, paths[-1] if paths else None
         finally:
             for path in paths:
-                with contextlib.suppress(FileNotFoundError):
-                    os.unlink(path)
+                path.unlink(missing_ok=True)
 
 
 def lives_of(result: Result) -> list[Result]:
     """The lives of a result: those of a list of scenarios, or its only one."""
     lives: list[Result] = result.get("lives", [result])
     return lives
-
-
-def image_in(folder: Path, result: Result) -> str:
-    """The file of a result's image."""
-    return f"{folder}/{result['image']}.image"
-
-
-def bytes_of(path: str) -> bytes:
-    """The bytes of a file, in a fraction of the time of a `Path`."""
-    file = os.open(path, os.O_RDONLY | os.O_CLOEXEC)
-    try:
-        return os.pread(file, os.fstat(file).st_size, 0)
-    finally:
-        os.close(file)
 
 
 ENDED = {"done": "carried out", "stopped": "stopped {number} {name}", "refused": "refused {fault} {name}"}

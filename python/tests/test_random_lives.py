@@ -9,7 +9,6 @@ import sys
 import unittest
 from pathlib import Path
 
-from gaknifur.playing import on_a_line
 from gaknifur.simulation import random_lives
 from gaknifur.testing import telegrams
 
@@ -34,7 +33,7 @@ class Lives(unittest.TestCase):
 
     def test_each_is_json_on_a_line(self) -> None:
         for life in self.lives:
-            self.assertEqual(on_a_line(life), life)
+            self.assertNotIn(b"\n", life)
             found = json.loads(life)
             places = [group["at"] for group in found["groups"]]
             self.assertEqual((places, set(found)), (sorted(set(places)), {"groups", "steps", "cold"}))

@@ -25,7 +25,7 @@ from gaknifur.journal.plausibility import Thresholds
 from gaknifur.journal.reading import Json
 from gaknifur.journal.wording import INDICATIONS
 from gaknifur.lives import BrakeCause, LimitCause, TripCause
-from gaknifur.testing import case_runner, cases_together
+from gaknifur.testing import case_runner
 from gaknifur.testing.case_runner import Keep, Played, with_speeds
 from gaknifur.testing.cases import Case
 from gaknifur.unit import Indication
@@ -269,12 +269,11 @@ class Checks(unittest.TestCase):
         self.assertIn("no such file", self.check(3, "", "etcs_lab: x: no such file")[2])
 
 
-def plays(case: Case, keep: Keep | None = None, why: bool = False, replay: bool = True) -> Played:
-    """Stands in for the programs: one life with its power-up alone; with its journal where causes are asked for."""
+def plays(case: Case, keep: Keep | None = None) -> Played:
+    """Stands in for the programs: one life with its power-up alone."""
     if keep:
         keep(b"the image")
-    power_up = record(0, "powerup", mode="SB")
-    return Played(with_speeds([power_up]), {}, journal(power_up) if why else None)
+    return Played(with_speeds([record(0, "powerup", mode="SB")]), {})
 
 
 class Suites(InFolder):
@@ -286,7 +285,6 @@ class Suites(InFolder):
         for name in ("one", "two of a/kind"):
             (self.room / "suite" / f"{name[:3]}.case.yaml").write_text(SUITE.format(name))
         self.enterContext(patch.object(case_runner, "play", plays))
-        self.enterContext(patch.object(cases_together, "line_of", lambda case: None))
         self.enterContext(patch.dict(os.environ, {"XDG_CACHE_HOME": str(self.room / "cache")}))
 
     def lab(self, *words: str) -> tuple[int, str]:

@@ -1,7 +1,7 @@
 #!/usr/bin/env python3
 """What `etcs_lab play` prints of many scenarios in one process: random scenarios and the examples, compared with the reference model (each
 output, each count, and the image byte by byte), and with `etcs run` on an image in a file; lists of scenarios, each a life on the journal that the one
-before left; the records of an image that Python reads, compared with those of `etcs_lab events`; hand-written cases that can't be played or read.
+before left; hand-written cases that can't be played or read.
 
     tests/lab/play_rows.py ETCS_LAB ETCS                       the full check
     tests/lab/play_rows.py ETCS_LAB ETCS SCENARIOS [SEED]      only random scenarios, each by `etcs_lab play`, `etcs run` and the reference model
@@ -29,7 +29,7 @@ from program import WORDS, event_of  # noqa: E402
 from random_lists import Numbers  # noqa: E402
 from run_rows import Played, RunRows, lived, placed, wanted_of  # noqa: E402
 
-SCENARIOS, SEED, LEAST_OUTPUTS, LEAST_RECORDS = 400, 7, 5_000, 1_000
+SCENARIOS, SEED, LEAST_OUTPUTS = 400, 7, 5_000
 LISTS, MOST_LIVES, LEAST_LATER, LEAST_DECODED = 60, 4, 100, 30
 OUTPUT = ("event", "mode", "level", "brake", "limit_m_per_h", "indications")
 SLOTS = (2, 3, 16, 64)
@@ -265,7 +265,6 @@ class Plays(Compared):
             if one["status"] == "stopped":
                 printed += f"stopped {one['number']} {one['name']}\n"
             self.same(f"etcs run, {case.name}", (status, lines, hashlib.sha256(image.read_bytes()).hexdigest()), (other, printed, one["sha256"]))
-            self.records(case, image)
 
     def ran(self, case, path, image):
         """The lines of `etcs run` and its status."""
@@ -288,14 +287,6 @@ class Plays(Compared):
                         printed += f"stopped {case.end['number']} {case.end['name']}\n"
                     self.same(f"etcs run, {case.name}", (lines, status, (self.folder / "image").read_bytes()), (printed, case.status, case.image))
         return self.end(f"play: {self.count} comparisons, {count} random scenarios with {self.met['outputs']} outputs by etcs_lab play and etcs run")
-
-    def records(self, case, image):
-        """The records that the package reads from an image in Python, as `etcs_lab events` prints them."""
-        from gaknifur.journal import played_image
-        lines = [json.loads(line) for line in run(self.lab, ["events", image])[0].splitlines()]
-        wanted = [{name: value for name, value in one.items() if name not in ("decoded", "unused", "demands")} for one in lines if "event" in one]
-        self.same(f"records, {case.name}", played_image.records(image.read_bytes()), wanted)
-        self.met["records"] += len(wanted)
 
     def faults(self):
         """A line that can't be played doesn't stop the others."""
@@ -441,7 +432,6 @@ class Plays(Compared):
         for word in ("done", "stopped", "trips", "service_brakes", "emergency_brakes"):
             self.unless(self.met[word], f"no scenario has {word}")
         self.unless(self.met["later"] >= LEAST_LATER, f"{self.met['later']} later lives are too few")
-        self.unless(self.met["records"] >= LEAST_RECORDS, f"{self.met['records']} records are too few")
         self.unless(self.met["outputs"] >= 4 * LEAST_OUTPUTS, f"{self.met['outputs'] // 4} outputs are too few")
         return self.end(f"play: {self.count} comparisons, {len(cases)} scenarios in 4 ways, a fourth of them by etcs run")
 

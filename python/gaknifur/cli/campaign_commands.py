@@ -41,15 +41,17 @@ class Taking:
         self.progress(f"campaign, {rate:,.0f} a second", self.played + self.kept, self.count)
 
 
-def run_jobs(given: SimpleNamespace, jobs: Iterator[campaign.Job], count: int, taking: Taking) -> int:
-    """Runs jobs here or by a scheduler, and closes the table; returns how many batches were lost with their process."""
+def run_jobs(given: SimpleNamespace, jobs: Iterator[campaign.Job], taking: Taking) -> None:
+    """Runs jobs here or by a scheduler, and closes the table."""
     try:
         if given.scheduler:
-            from ..simulation import dask_scheduler
-            return dask_scheduler.by_scheduler(jobs, count, given.scheduler, taking.take)
-        return campaign.here(jobs, count, given.jobs, taking.take)
+            campaign.by_scheduler(jobs, given.scheduler, taking.take)
+        else:
+            campaign.here(jobs, given.jobs, taking.take)
     except KeyboardInterrupt:
         raise Failed(f"interrupted; {taking.played} were run and are kept. The same command continues", INTERRUPTED) from None
+    except Failed as failed:
+        raise Failed(f"{failed}; {taking.played} were run and are kept. The same command continues", failed.status) from failed
     finally:
         taking.table.close()
 
@@ -60,19 +62,17 @@ def play_campaign(given: SimpleNamespace, progress: "Progress") -> int:
         raise Failed("campaign: a FOLDER or --random N is required", WRONG_WORDS)
     out = files.Out(given.csv, given.force) if given.csv else None
     files.check_all([out] if out else [], [given.out], [given.out])
-    jobs: campaign.Folder | list[campaign.Job] = campaign.Folder(given.folder, SLOTS if given.slots is None else given.slots, given.replay) if given.folder else []
+    jobs: campaign.Folder | list[campaign.Job] = campaign.Folder(given.folder, SLOTS if given.slots is None else given.slots) if given.folder else []
     if given.folder and not len(jobs):
         raise Failed(f"{given.folder}: contains no test case and no scenario; nothing was run", REFUSED)
     count = len(jobs) + given.random
     taking = Taking(campaign_table.Table(given.out, campaign_table.settings_of()), count, progress)
-    lives = campaign.at_random(given.random, given.seed, given.slots, given.replay)
-    lost = run_jobs(given, taking.left(itertools.chain(jobs, lives)), count, taking)
+    lives = campaign.at_random(given.random, given.seed, given.slots)
+    run_jobs(given, taking.left(itertools.chain(jobs, lives)), taking)
     rows, bad, first = campaign_table.unsound(given.out, SHOWN)
     if out:
         campaign_table.write_csv(given.out, out)
     print(f"{rows} rows, {taking.played} of them played now; {bad} not sound")
-    if lost:
-        print(f"{lost} batches were lost with their process, and played again")
     for row in first:
         print(shown(f"  {row['name']}: {row['ended']}{'; ' + row['first_missed'].splitlines()[0] if row['first_missed'] else ''}"))
     refused, name = campaign_table.refused(given.out)

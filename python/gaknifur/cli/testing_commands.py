@@ -109,7 +109,7 @@ def run_tests(given: SimpleNamespace, progress: Progress) -> None:
     files.check_all([out] if out else [], [given.folder])
     root = given.folder if given.folder.is_dir() else given.folder.parent
     selected = [f"--{name}={one}" for name in ("section", "feature") for one in getattr(given, name)]
-    how = [f"--jobs={given.jobs}"] + ([f"--keep={given.keep}"] if given.keep else []) + (["--replay"] if given.replay else [])
+    how = [f"--jobs={given.jobs}"] + ([f"--keep={given.keep}"] if given.keep else [])
     how += [f"--against={given.against}", f"--answer-within={given.answer_within}"] if given.against else []
     how += [] if given.python or given.against else [UNCAPTURED]
     for name in ("etcs", "etcs_lab"):  # pytest captures standard error, which says that they are unproved

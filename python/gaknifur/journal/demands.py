@@ -10,13 +10,12 @@ from operator import itemgetter
 
 from .. import guard
 from ..guard import Direction
-from ..unit import Mode
+from ..simulation.driving import MODES
 from .groups import Group, direction, links_of, packets_of
-from .played_image import MODES
 from .reading import Journal, Json
 
 ROW = ("event", "life", "mode", "direction", "demanded", "finding", "packet", "section", "sureness")
-MODE_OF = {name: Mode(number) for number, name in MODES.items()}
+MODE_OF = {name: mode for mode, name in MODES.items()}
 
 
 def group_of(record: Json) -> Group:

@@ -301,6 +301,15 @@ def check(path: Path, progress: Progress, slots: int | None = None) -> tuple[Jso
     return examination, replay
 
 
+def records_of(path: Path) -> list[Json]:
+    """Only the records of a journal that is whole."""
+    found: list[Json] = []
+    run = objects(["events"], path, found.append)
+    if run.status != WHOLE:
+        raise run.failed(path)
+    return [one for one in found if "event" in one]
+
+
 STRAY = ("misplaced", "damaged")
 """Sources of strays."""
 

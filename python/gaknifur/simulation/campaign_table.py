@@ -23,7 +23,7 @@ INSERT = f"INSERT OR REPLACE INTO result ({', '.join(COLUMNS)}) VALUES ({', '.jo
 SCHEMA = """
 CREATE TABLE campaign (name TEXT PRIMARY KEY, value TEXT NOT NULL) STRICT;
 CREATE TABLE result (
-    name TEXT PRIMARY KEY, job_sha256 TEXT NOT NULL, kind TEXT NOT NULL, ended TEXT NOT NULL, written_sha256 TEXT, events INTEGER,
+    name TEXT PRIMARY KEY, job_sha256 TEXT NOT NULL, kind TEXT NOT NULL, ended TEXT NOT NULL, image_sha256 TEXT, events INTEGER,
     lives INTEGER, mode TEXT, brake TEXT, limit_m_per_h INTEGER, place_cm INTEGER, emergencies INTEGER, trips INTEGER,
     tests INTEGER, missed INTEGER, first_missed TEXT, sound INTEGER NOT NULL, seconds REAL, worker TEXT) STRICT;
 """

@@ -1,7 +1,7 @@
 """Run a test case with `etcs run`, and judge its expected results by the records that `etcs_lab events` prints.
 
 A journal is judged only if each life ended as expected, each released output is that of its record, the image is whole, and a
-replay by the kernel agrees with all of it. The replay can be left out; `cases_together` does so, and runs many cases in one process.
+replay by the kernel agrees with all of it.
 """
 from collections.abc import Callable, Sequence
 from dataclasses import dataclass
@@ -9,8 +9,8 @@ from pathlib import Path
 
 from .. import etcs_run, program
 from ..etcs_run import CARRIED_OUT, Released
-from ..journal import played_image
-from ..journal.reading import Journal, Json, read
+from ..journal.reading import Json, read
+from ..program import Failed
 from ..simulation import closed_loop
 from ..simulation.driving import Driven
 from .cases import DRIVEN, WITHIN, Case, Condition, Expected, Life, Row, derived, with_train
@@ -30,8 +30,9 @@ class Played:
     records: list[Json]
     marks: dict[str, int]
     """The index of each mark's record."""
-    journal: Journal | None = None
-    """Their journal, as `etcs_lab` read it."""
+
+
+Outcome = tuple[Played | Missed | Failed, bytes]
 
 
 # ---- playing
@@ -61,9 +62,9 @@ def place_of(life: Life, ended: str) -> str:
     return ""
 
 
-def play(case: Case, keep: Keep | None = None, why: bool = False, replay: bool = True) -> Played:
-    """Runs the lives of a case in turn on one image, and reads the records; with `why` also the causes of brakes and limits. `keep`
-    receives the image, also if the lives didn't end as expected. Without `replay` the image of lives that `etcs run` ran is only read."""
+def play(case: Case, keep: Keep | None = None) -> Played:
+    """Runs the lives of a case in turn on one image, and reads the records. `keep` receives the image, also if the lives didn't end as
+    expected."""
     with program.temporary_folder(case.slots) as name:
         folder, image = Path(name), Path(name) / "image"
         program.format_image(image, case.slots)
@@ -77,19 +78,20 @@ def play(case: Case, keep: Keep | None = None, why: bool = False, replay: bool =
         finally:
             if keep:
                 keep(image.read_bytes())
-        if not (replay or why or any(driven)):
-            return judged(case, played_image.records(image.read_bytes()), released)
-        journal = read(image, replay=True, why=why, is_own=True)
+        journal = read(image, replay=True, is_own=True)
     check_image(journal)
-    return judged(case, journal.records, released, driven, journal)
-
-
-def judged(case: Case, records: Sequence[Json], released: list[Released], driven: Sequence[Driven | None] = (),
-           journal: Journal | None = None) -> Played:
-    """A case that was run, from its records. Each released output has to be that of its record."""
-    found = with_trains(with_speeds(records), driven)
+    found = with_trains(with_speeds(journal.records), driven)
     check_released(released, found)
-    return Played(found, marked(case, found, driven), journal)
+    return Played(found, marked(case, found, driven))
+
+
+def outcome(case: Case, is_kept: bool) -> Outcome:
+    """The records of a case, or why there are none to judge, and its image if it is kept."""
+    images = [b""]
+    try:
+        return play(case, images.append if is_kept else None), images[-1]
+    except (Missed, Failed) as failed:
+        return failed, images[-1]
 
 
 def drive(life: Life, image: Path) -> Driven | None:

@@ -10,7 +10,7 @@ from pathlib import Path
 
 from .. import program
 from ..journal.reading import Json, objects
-from ..playing import image_in, play_images
+from ..playing import play_images
 from ..program import WHOLE, Failed
 from ..yaml_files import Value
 from . import telegrams
@@ -50,18 +50,13 @@ def together(digits: list[str]) -> list[tuple[str, list[str]]]:
     scenario = {"groups": [], "steps": [{"telegram": one} for one in digits]}
     slots = len(digits) // 8 + MORE_SLOTS
     records: list[Json] = []
-    with program.temporary_folder(slots) as name, contextlib.closing(play_images([(json.dumps(scenario).encode(), slots)], Path(name))) as results:
-        for result, image in results:
-            run = objects(["events"], Path(image_in(Path(name), result)), records.append) if image else None
+    with program.temporary_folder(slots) as name, contextlib.closing(play_images([json.dumps(scenario).encode()], slots, Path(name))) as results:
+        for _, image in results:
+            run = objects(["events"], image, records.append) if image else None
             if run is None or run.status != WHOLE:
                 return []
     found = [(one["telegram"].upper(), lines_of(one["decoded"])) for one in records if one.get("kind") == "telegram"]
     return found if [one for one, _ in found] == digits else []
-
-
-def packets_of(digits: str) -> list[int]:
-    """The numbers of a telegram's packets; none if it is refused."""
-    return [int(line.split()[1]) for line in program.decode(digits) if line.startswith("packet ")]
 
 
 def lines_of(decoded: Json) -> list[str]:

@@ -1,24 +1,26 @@
 """Run test cases with pytest: it collects each `case.yaml` and `*.case.yaml`, and each expected result is a test of its own.
 
 `lab test FOLDER` is pytest with this plugin. A test belongs to its case, and is named by its sections, its case and its note.
-`--section` and `--feature` select tests; `--replay` runs each case by itself and replays its image; `--keep FOLDER` keeps the image and the report of each case with a failed test;
+`--section` and `--feature` select tests; `--keep FOLDER` keeps the image and the report of each case with a failed test;
 `--against COMMAND` also runs each case on another unit (docs/howto/oracle.md), and judges its answers; `-k`, `-x`, `--lf`,
 `--junitxml=FILE` and the others are pytest's own. In the JUnit XML the class of a test is its case, after its file, and each
 test has the properties `case`, `feature` and `sections`.
 """
+import contextlib
 import re
 from collections.abc import Iterator
-from dataclasses import replace
+from concurrent.futures import Future
+from concurrent.futures.process import BrokenProcessPool
 from pathlib import Path
 from typing import Any
 
 import pytest
 
-from .. import program
+from .. import processes, program
 from ..cli import unit_commands
 from ..program import Failed
 from ..units import oracle, other_unit
-from . import case_files, case_runner, cases, cases_together, mode_table
+from . import case_files, case_runner, cases, mode_table
 
 AGREES = "another unit answers each event like the proved one"
 FIRST = "each life ends as expected; the image is whole, and its records are the released outputs"
@@ -30,7 +32,6 @@ def pytest_addoption(parser: pytest.Parser) -> None:
     group.addoption("--section", action="append", default=[], metavar="SECTION",
                     help="only results about this section of SUBSET-026 or its subsections; can be repeated")
     group.addoption("--feature", action="append", default=[], metavar="FEATURE", help="only cases of this feature")
-    group.addoption("--replay", action="store_true", help="run each case with `etcs run` on a file, and examine and replay its image")
     group.addoption("--jobs", metavar="N", type=int, default=1, help="processes on this machine in which cases are run")
     group.addoption("--keep", metavar="FOLDER", help="keep the image and report of each failed case in this new folder")
     group.addoption("--against", metavar="COMMAND", help="also run another unit, and compare and judge its answers (docs/howto/oracle.md)")
@@ -108,17 +109,20 @@ class Player:
         self.case, self.folder = case, folder
         self.against, self.within_s = against, within_s
         self.comparison: oracle.Comparison | None = None
-        self.together: cases_together.Together | None = None
-        self.outcome: cases_together.Outcome | None = None
+        self.running: Future[case_runner.Outcome] | None = None
+        """The run of the case in another process."""
+        self.outcome: case_runner.Outcome | None = None
 
     def play(self) -> case_runner.Played:
         """The records. Raises the same failure each time if there are none to judge."""
         if self.outcome is None:
-            assert self.together
-            self.outcome = self.together.take(self.case)
-            if self.folder is None:
-                self.outcome = replace(self.outcome, image=b"")
-        return self.outcome.played()
+            try:
+                self.outcome = self.running.result() if self.running else case_runner.outcome(self.case, self.folder is not None)
+            except BrokenProcessPool:
+                self.outcome = processes.killed(), b""
+        if isinstance(self.outcome[0], case_runner.Played):
+            return self.outcome[0]
+        raise self.outcome[0]
 
     def compare(self, command: str) -> oracle.Comparison:
         """The answers of another unit to the events of the case."""
@@ -146,12 +150,12 @@ class Player:
 
     def keep(self) -> None:
         """Keeps image and report once, in a folder of the case's own."""
-        if self.folder is None or self.outcome is None or not self.outcome.image:
+        if self.folder is None or self.outcome is None or not self.outcome[1]:
             return
         from ..journal import report
         from ..journal.reading import read
 
-        image, self.outcome = self.outcome.image, replace(self.outcome, image=b"")
+        image, self.outcome = self.outcome[1], (self.outcome[0], b"")
         self.folder.mkdir(parents=True, exist_ok=True)
         folder = new_folder(self.folder, self.case.name)
         path = folder / "image"
@@ -241,11 +245,17 @@ def pytest_collection_modifyitems(config: pytest.Config, items: list[pytest.Item
 
 
 def pytest_collection_finish(session: pytest.Session) -> None:
-    """Lets the cases of all selected tests run together."""
+    """Begins to run the cases of all selected tests in other processes, unless one process is enough."""
     players = {id(item.player): item.player for item in session.items if isinstance(item, Item)}
-    if players:
-        found, option = [one.case for one in players.values()], session.config.getoption
-        together = cases_together.Together(found, False, option("--replay"), option("--jobs"))
-        session.config.add_cleanup(together.close)
-        for one in players.values():
-            one.together = together
+    jobs = min(session.config.getoption("--jobs"), len(players))
+    if jobs > 1:
+        stack = contextlib.ExitStack()
+        session.config.add_cleanup(stack.close)
+        pool = stack.enter_context(processes.pool(jobs, [one.case for one in players.values()]))
+        for number, one in enumerate(players.values()):
+            one.running = pool.submit(outcome_of, number, one.folder is not None)
+
+
+def outcome_of(number: int, is_kept: bool) -> case_runner.Outcome:
+    """The outcome of a case in one of the processes."""
+    return case_runner.outcome(processes.shared[number], is_kept)

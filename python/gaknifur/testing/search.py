@@ -1,11 +1,12 @@
 """Search random scenarios for one that breaks a property, and shrink it. docs/howto/searching.md explains how to use it.
 
-Scenarios are run by `etcs_lab play`, and judged by the records of their images, or by another unit's answers to them. Random ones run
-together and in several processes, since those that are made don't depend on what is found. Hypothesis shrinks a scenario that breaks a property, and then each step that isn't needed is removed. The scenario is kept as a
+Scenarios are run by `etcs_lab play`, and judged by the records of their images, or by another unit's answers to them. Random ones run in
+several processes, since those that are made don't depend on what is found. Hypothesis shrinks a scenario that breaks a property, and then each step that isn't needed is removed. The scenario is kept as a
 test case.
 """
 import contextlib
 import json
+import shutil
 from collections import Counter
 from collections.abc import Callable, Iterator, Sequence
 from dataclasses import dataclass, field
@@ -16,25 +17,25 @@ from hypothesis import HealthCheck, Phase, settings
 
 from .. import processes, program
 from ..etcs_run import CARRIED_OUT
-from ..journal import played_image
-from ..journal.reading import Json
+from ..journal.reading import Json, records_of
 from ..playing import AHEAD, ended, lives_of, play_images
 from ..program import REFUSED, Failed
 from ..units import oracle
-from . import case_runner, decoding, properties
+from . import case_runner, properties
 from .properties import Property, Violated
 from .scenario_text import life_lines, telegram_lines, text_of
 from .strategies import Made, lives
 from .yaml_text import flow, quoted
 
 Lives = tuple[str, ...]
-SLOTS, TOGETHER = 128, 500
-"""The slots of an image, and the greatest number of scenarios that run together."""
+SLOTS, TOGETHER = 128, 25
+"""The slots of an image, and the number of scenarios that run together."""
 MOST_SHRINKING = 250
 """The greatest number of scenarios that are run to shrink one."""
 MOST_KEPT = 20_000
 """The greatest number of scenarios whose records are kept."""
 Records = Callable[[Lives], list[Json]]
+Judged = tuple[list[list[int | None]], Counter[str]]
 
 
 @dataclass(frozen=True)
@@ -64,34 +65,30 @@ class Found:
 
 # ---- playing
 
-def images_of(many: Sequence[Lives]) -> Iterator[bytes]:
+def images_of(many: Sequence[Lives]) -> Iterator[Path]:
     """The image of each scenario, whose lives run in turn."""
     lines = (("[" + ",".join(scenarios) + "]").encode() for scenarios in many)
     with program.temporary_folder(AHEAD * SLOTS) as folder, contextlib.closing(
-            play_images(((line, SLOTS) for line in lines), Path(folder))) as results:
+            play_images(lines, SLOTS, Path(folder))) as results:
         left = iter(many)
         for result, image in results:
             scenarios = next(left)
             how = [ended(life) or life["status"] for life in lives_of(result)]
-            if how != [CARRIED_OUT] * len(scenarios):
+            if image is None or how != [CARRIED_OUT] * len(scenarios):
                 raise Failed(f"etcs_lab play ended with {how[-1]}: {' '.join(scenarios)}", REFUSED)
             yield image
 
 
 def image_of(scenarios: Lives, image: Path) -> None:
     """Writes the image of a scenario."""
-    for data in images_of([scenarios]):
-        image.write_bytes(data)
+    for path in images_of([scenarios]):
+        shutil.copyfile(path, image)
 
 
 def recorded(many: Sequence[Lives]) -> Iterator[list[Json]]:
     """The records of each scenario."""
     for image in images_of(many):
-        records = played_image.records(image)
-        for record in records:
-            if "telegram" in record:
-                record["decoded"] = {"packets": [{"packet": number} for number in decoding.packets_of(record["telegram"].upper())]}
-        yield properties.derived(case_runner.with_speeds(records))
+        yield properties.derived(case_runner.with_speeds(records_of(image)))
 
 
 def answered(scenarios: Lives, records: list[Json], other: Other) -> list[Json]:
@@ -222,21 +219,30 @@ def survey(wanted: list[Property], made: Made, records: Player, examples: int, s
         met[scenarios] = None
 
     over_lives(made, examples, seed, (Phase.generate,), meet)
-    many = list(met)
-
-    def judged(part: range) -> tuple[list[list[int | None]], Counter[str]]:
-        some = many[part.start:part.stop]
-        records.play(some)
-        modes = Counter(record["mode"] for scenarios in some for record in records(scenarios))
-        return [[judged_by(one, records(scenarios)) for one in wanted] for scenarios in some], modes
-
-    searches, parts = [Search(one, records) for one in wanted], processes.parts_of(len(many), jobs, TOGETHER)
-    for part, (found, modes) in zip(parts, processes.each(judged, parts, jobs)):
-        records.modes += modes
-        for at, counts in zip(part, found):
-            for search, count in zip(searches, counts):
-                search.take(many[at], count)
+    many, searches = list(met), [Search(one, records) for one in wanted]
+    parts = [many[at:at + TOGETHER] for at in range(0, len(many), TOGETHER)]
+    with contextlib.ExitStack() as stack:
+        results = stack.enter_context(processes.pool(jobs, (wanted, records))).map(judged_here, parts) if jobs > 1 else \
+            (judged(wanted, records, part) for part in parts)
+        for part, (found, modes) in zip(parts, results):
+            records.modes += modes
+            for scenarios, counts in zip(part, found):
+                for search, count in zip(searches, counts):
+                    search.take(scenarios, count)
     return searches
+
+
+def judged_here(some: list[Lives]) -> Judged:
+    """The result of `judged` in one of several processes."""
+    wanted, records = processes.shared
+    return judged(wanted, records, some)
+
+
+def judged(wanted: list[Property], records: Player, some: list[Lives]) -> Judged:
+    """How many records of each scenario each property judges, and how many records have each mode."""
+    records.play(some)
+    modes = Counter(record["mode"] for scenarios in some for record in records(scenarios))
+    return [[judged_by(one, records(scenarios)) for one in wanted] for scenarios in some], modes
 
 
 def shrunk(search: Search, made: Made, examples: int, seed: int) -> Found:

@@ -2,7 +2,7 @@
 import {Records} from "./calls";
 import {Child, make} from "./dom";
 import {AskedImage} from "./image";
-import {Facts, JournalRecord, Replay, SECTOR, Slot, Why} from "./layouts";
+import {JournalRecord, Replay, SECTOR, Slot, Why} from "./layouts";
 import {Intervention} from "./lives";
 import {causeTextsOf, tripReason} from "./brief";
 import {Head} from "./messages";
@@ -18,8 +18,10 @@ function bytesText({ bytes: { length }, bytesRead }: AskedImage): string {
 }
 
 /** What an image is. */
-export function imageTexts(image: AskedImage, facts: Facts): [string, string][] {
-    const { name, digest, records, lives, unreadable, isBySlots: isAssumed } = image, rows: [string, string][] = [
+export function imageTexts(image: AskedImage): [string, string][] {
+    const { name, digest, facts, records, lives, unreadable, isBySlots: isAssumed } = image;
+    if (!facts) return [];
+    const rows: [string, string][] = [
         ["file", name], ["SHA-256", digest], ["bytes", bytesText(image)],
         ["sectors", count(facts.sectors)],
         ["slots", `${count(facts.slots)}, ${count(facts.whole)} whole${isAssumed ? `; ${SAY.assumed}` : ""}`],

@@ -29,13 +29,7 @@ export interface Braking {
     rate: Promise;
     way: Promise
 }
-/** What followed a command: time since it, way since the reading before it, and speed. */
-export interface Point {
-    ms: number;
-    cm: number;
-    speed: number
-}
-export interface Train {
+interface Train {
     deceleration: number;
     reaction: number
 }
@@ -195,12 +189,6 @@ class Command {
         };
         return none || !train || v0 === null ? row : {...row, ...promisesOf(row, train, v0) };
     }
-
-    /** What is drawn. */
-    points(): Point[] {
-        const start = this.stretch.records.moment(this.from);
-        return this.readings.map(({ moment, way, speed }) => ({ ms: moment - start, cm: way, speed }));
-    }
 }
 
 /** The way to standstill that train data promise on level track, each term rounded up. */
@@ -254,27 +242,4 @@ export function brakingOf(records: Records): Braking[] {
         }
     }
     return rows;
-}
-
-/** The points of a command. */
-export function pointsOf(records: Records, row: Braking): Point[] {
-    const from = records.find(row.first_event), to = records.find(row.last_event);
-    if (from === null || to === null) return [];
-    const isBefore = (n: number): boolean => records.kind(n) === ODOMETER || records.kind(n) === POWER_UP;
-    let before = from;
-    while (!isBefore(before) && before > 0 && goesOn(records, before - 1)) before--;
-    const stretch = new Stretch(records, before, goesOn(records, to) ? to + 2 : to + 1);
-    return new Command(stretch, from, to, isBefore(before) ? before : null, null).points();
-}
-
-/** The curve that train data promise from a speed on, in steps of a twentieth of it. */
-export function promisedCurve(v0: number, {deceleration, reaction}: Train): Point[] {
-    const way = v0 * reaction / 36_000, steps = Array.from({ length: 21 }, (_, n) => v0 * (20 - n) / 20);
-    return [
-        { ms: 0, cm: 0, speed: v0 }, ...steps.map(speed => ({
-            ms: reaction + (v0 - speed) * 1000 / (36 * deceleration),
-            cm: way + (v0 * v0 - speed * speed) / (2592 * deceleration),
-            speed
-        }))
-    ];
 }

@@ -2,10 +2,9 @@
 // causes, the trips, which outputs left the unit, and of which this isn't known. As the report of `lab report` has it.
 import {Records} from "./calls";
 import {Child, make} from "./dom";
-import {Block, POWER_UP, Replay, Why} from "./layouts";
-import {askedOf, Intervention, lastOf, LifeRange} from "./lives";
-import {Unwritten} from "./messages";
-import {Finding} from "./plausibility";
+import {AskedImage} from "./image";
+import {POWER_UP, Replay, Why} from "./layouts";
+import {askedOf, lastOf} from "./lives";
 import {
     brakeText,
     causeText,
@@ -20,28 +19,16 @@ import {
     tripCauseText
 } from "./shown";
 import {BRIEF, VERDICTS} from "./texts";
-import {implausibleText, VERDICT} from "./wording";
+import {VERDICT} from "./wording";
 
-const MOST_TRIPS = 12, MOST_IMPLAUSIBLE = 12;
+const MOST_TRIPS = 12;
 
 /** What is known of an image so far; what isn't yet is null or not there. */
-export interface Known {
+type Known = Pick<AskedImage, "lives"|"speeds"|"interventions"|"trips"|"isWhole"|"verdict"|"newest"|"unwritten">& {
     records: Records;
-    lives: LifeRange[];
-    speeds: Float64Array;
-    interventions: Intervention[];
-    trips: number[];
     /** The causes that count, by the indexes of records; and of others why they don't. */
-    causes: Map<number, Why|string>;
-    isWhole: boolean|null;
-    /** The sentences of the verdict. */
-    verdict: string[]|null;
-    implausible: Finding[];
-    newest: Block|null;
-    unwritten: Unwritten|null;
-    /** The time of day of a record by marks, with a comma before it; nothing where there are no marks. */
-    utc(index: number): string
-}
+    causes: Map<number, Why|string>
+};
 /** A cause, its number in the brake table, and the event since which it holds. */
 export type Since = [cause: number, event: number];
 
@@ -98,22 +85,11 @@ function verdict({ verdict: said }: Known): Child[] {
     return [said.length ? strong(`${said.join(". ")}.`) : `${VERDICT.none}.`];
 }
 
-/** What is implausible, where there is more than the verdict says. */
-function implausible({ implausible: all }: Known): Child[] {
-    const line = (one: Finding): HTMLElement =>
-        make("li", {}, link(one.first_event), `: ${implausibleText(one).replace(/^implausible: /, "")}`);
-    const more = all.length - MOST_IMPLAUSIBLE;
-    return [
-        make("ul", {}, ...all.slice(0, MOST_IMPLAUSIBLE).map(line),
-            more > 0 && make("li", {}, VERDICT.furtherOnes(more)))
-    ];
-}
-
 /** Where and how fast the train was at a record. */
-function at({ records, speeds, utc }: Known, index: number): string {
+function at({ records, speeds }: Known, index: number): string {
     const place = placeText(records.front(index)), speed = speedText(speeds[index] ?? NaN);
     return `place ${place}, speed ${speed}, limit ${permittedText(records.limit(index))}, moment ${
-        seconds(records.moment(index))}${utc(index)}`;
+        seconds(records.moment(index))}`;
 }
 
 /** The last intervention, with its causes, those of its trips, and what decided the limit. */
@@ -147,14 +123,14 @@ function trips(known: Known): Child[] {
     return [make("ul", {}, ...newest.map(line), more > 0 && make("li", {}, BRIEF.earlier(more)))];
 }
 
-function lastLife({ records, lives, speeds, utc }: Known): Child[] {
+function lastLife({ records, lives, speeds }: Known): Child[] {
     const life = lives[lives.length - 1];
     if (!life) return [BRIEF.none];
     const end = records.get(life.end - 1), events = `${count(records.event(life.from))} to ${count(end.event)}`;
     return [
         `life ${life.number}, events ${events}; at its end ${modeName(end.mode)}, level ${levelText(end.level)}, `,
         `${brakeText(end.brake)}, place ${placeText(end.front)}, speed ${speedText(speeds[life.end - 1] ?? NaN)}, `,
-        `moment ${seconds(end.moment)}${utc(life.end - 1)}`
+        `moment ${seconds(end.moment)}`
     ];
 }
 
@@ -186,7 +162,6 @@ export function briefRows(known: Known): [string, Child[]][] {
     if (!known.records.count) return [["Verdict", verdict(known)]];
     return [
         ["Verdict", verdict(known)],
-        ...(known.implausible.length > 1 ? [["Implausible", implausible(known)] as [string, Child[]]] : []),
         ["Last intervention", intervention(known)], ["Trips", trips(known)],
         ["Last life", lastLife(known)], ["Released", released(known)],
         ...(powerUps ? [["Power-ups", [BRIEF.powerUps(powerUps)]] as [string, Child[]]] : [])

@@ -258,12 +258,6 @@ export class Journal {
 
     private reader(): Reader { return new Reader(new DataView(this.x.memory.buffer)); }
 
-    /** The bytes of the next record, as the call writes them. After DAMAGED it goes on. */
-    next(): Answer<Uint8Array> {
-        const status = this.x.etcs_journal_next_(this.image.at, BigInt(this.image.size), this.at, this.out);
-        return { status, value: status === OK ? this.reader().bytes(Number(this.out), BYTES.record) : null };
-    }
-
     /**
      * The bytes of the next records, at most AT_ONCE, one after the other; and where one didn't come, the status of
      * its call and the block at which the journal stood before it.
@@ -331,17 +325,12 @@ export class Records {
     kind(index: number): number { return this.reader.u8(BYTES.record * index + 49); }
     brake(index: number): number { return this.reader.u8(BYTES.record * index + 52); }
     mode(index: number): number { return this.reader.u8(BYTES.record * index + 50); }
+    level(index: number): number { return this.reader.u8(BYTES.record * index + 51); }
     indications(index: number): number { return this.reader.u8(BYTES.record * index + 53); }
     hasPlace(index: number): boolean { return this.reader.hasPlace(BYTES.record * index); }
-    uncertainty(index: number): number { return this.reader.u64(BYTES.record * index + 32); }
-    /** The movement of an odometer reading. */
-    readMovement(index: number): number { return this.payloadNumber(index, 0) | 0; }
     /** The speed of an odometer reading. */
-    readSpeed(index: number): number { return this.payloadNumber(index, 4); }
-
-    private payloadNumber(index: number, from: number): number {
-        const at = BYTES.record * index + 56 + from;
-        return this.reader.u8(at) * 0x1000000 + this.reader.u8(at + 1) * 0x10000 + this.reader.u8(at + 2) * 0x100 +
-            this.reader.u8(at + 3);
+    readSpeed(index: number): number {
+        const at = BYTES.record * index + 60;
+        return [0, 1, 2, 3].reduce((number, n) => 0x100 * number + this.reader.u8(at + n), 0);
     }
 }

@@ -371,15 +371,11 @@ export class Drive {
         const marks = points.flatMap((point, n) => point.brake && n && points[n - 1]?.brake !== point.brake
                 ? [{ index: n, brake: point.brake }]
                 : []);
-        draw(at("drive-chart") as unknown as SVGSVGElement, {
+        draw(at("drive-chart"), {
             x: points.map(point => point.place),
             speed: points.map(point => point.speed),
             limit: points.map(point => point.limit),
-            unit: "m",
-            per: 100,
-            cursor: points.length ? points.length - 1 : null,
             marks,
-            pick: null,
             title: "Speed and limit over distance"
         });
     }

@@ -1,9 +1,6 @@
-// Texts of files, escaped as python/gaknifur/escaping.py does it, and split and stripped as Python does it.
+// Texts of files, escaped as python/gaknifur/escaping.py does it.
 const HIDDEN = /[\p{Cc}\p{Cf}\p{Cs}\p{Co}\p{Cn}\p{Zl}\p{Zp}]/gu;
 const MOST_QUOTED = 40;
-const SPACE = "[\\t-\\r\\x1c-\\x20\\x85\\xa0\\u1680\\u2000-\\u200a\\u2028\\u2029\\u202f\\u205f\\u3000]+";
-const STRIP = new RegExp(`^${SPACE}|${SPACE}$`, "g");
-const LINE_END = /\r\n|[\n-\r\x1c-\x1e\x85\u2028\u2029]/;
 
 /** A text on one line, with each character that can't be seen spelled. */
 export function spelled(text: string): string {
@@ -19,9 +16,3 @@ export function spelled(text: string): string {
 export function short(text: string): string {
     return spelled(text.length > MOST_QUOTED ? `${text.slice(0, MOST_QUOTED)}…` : text);
 }
-
-/** A text without the white space around it. */
-export function stripped(text: string): string { return text.replace(STRIP, ""); }
-
-/** The lines of a text. */
-export function linesOf(text: string): string[] { return text.split(LINE_END); }

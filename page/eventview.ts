@@ -2,7 +2,6 @@
 import {outcomeText} from "./answers";
 import {reasonOf} from "./brief";
 import {Calls} from "./calls";
-import {Day} from "./day";
 import {Dial, scaleOf, shownOf} from "./dial";
 import {at, make, say, show} from "./dom";
 import {fieldsOf, placeOf, showBytes, sizeOf} from "./fields";
@@ -20,8 +19,8 @@ export class EventView {
     private readonly dial = new Dial(at("ask-dial"));
     private asking = 0;
 
-    constructor(private readonly worker: { postMessage(order: Order): void }, private readonly calls: Calls,
-        private readonly day: Day) {}
+    constructor(
+        private readonly worker: { postMessage(order: Order): void }, private readonly calls: Calls) {}
 
     /** Shows a record of an image that has been read. */
     show(image: AskedImage): void {
@@ -38,7 +37,6 @@ export class EventView {
         say("event-said",
             `Event ${count(record.event)} of life ${record.life}, block ${count(record.block)}: ${eventText(record)}`);
         say("ask-texts", outcomeText(record));
-        say("ask-day", this.day.text(record));
         say("ask-mode", modeName(record.mode));
         say("ask-level", `level ${levelText(record.level)}`);
         say("ask-brake", brakeText(record.brake));

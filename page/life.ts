@@ -1,11 +1,11 @@
 // A unit on a medium that lies in the page's memory: what it is handed, what it asks of the medium, what it releases;
 // and a loss of power, also within a write. What the unit was handed is kept as the steps of a scenario, as `etcs run`
 // reads it.
-import {Calls, END, Held, NO_SUCH_REQUEST, OK} from "./calls";
+import {Calls, Held, NO_SUCH_REQUEST, OK} from "./calls";
 import {bytesOfHex} from "./hex";
 import {Output, Request, SECTOR, State} from "./layouts";
 
-export const PENDING = 8;
+const PENDING = 8;
 export type Step = {
     telegram: string
 }|{drive: [number, number]}|{clock: number}|{driver: (number|string)[]}|{flush: true};
@@ -223,21 +223,4 @@ export class Life {
 /** The write whose sectors are open at a request: itself, or where it is a sync the write before it. */
 export function openAt(list: Asked[], index: number): number {
     return list[index]?.request.isWrite ? index : index - 1;
-}
-
-/** The records that a medium holds, as the calls write them, and the blocks that can't be read. */
-export function recordsOf(calls: Calls, image: Held): {status: number; bytes: Uint8Array[]; unreadable: number[]} {
-    const journal = calls.journal(image), bytes: Uint8Array[] = [], unreadable: number[] = [];
-    let status = journal.status;
-    while (status === OK) {
-        const block = journal.block(), answer = journal.next();
-        status = answer.status;
-        if (answer.value) bytes.push(answer.value);
-        else if (status !== END && journal.block() !== block) {
-            unreadable.push(block);
-            status = OK;
-        }
-    }
-    journal.drop();
-    return { status, bytes, unreadable };
 }

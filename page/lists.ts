@@ -1,77 +1,53 @@
 // The lists of an image: its lives, its interventions, and its brake commands. A click on a line leads to its event.
 import {interventionTexts, lifeCells} from "./answers";
-import {Braking, Pair, pointsOf, Promise, promisedCurve} from "./braking";
+import {Braking, Pair, Promise} from "./braking";
 import {Records} from "./calls";
-import {draw} from "./chart";
-import {Day, utcText} from "./day";
-import {at, Child, make, pressed, row, show, table} from "./dom";
-import {POWER_UP, Replay, Why} from "./layouts";
-import {Intervention} from "./lives";
+import {Child, make, pressed, row, show, table} from "./dom";
+import {AskedImage} from "./image";
+import {POWER_UP, Replay} from "./layouts";
 import {brakeText, count, kmh, metres, seconds} from "./shown";
-import {BRIEF, DAY, WORDS} from "./texts";
+import {BRIEF, WORDS} from "./texts";
 import {BRAKED} from "./wording";
 
-/** How many lines are shown, and how much stands above the chosen one, in pixels. */
-const MOST_SHOWN = 500, ABOVE = 90;
+/** How many lines are shown. */
+const MOST_SHOWN = 500;
 
 export class Lists {
     /** `choose` leads to an event. */
-    constructor(private readonly day: Day, private readonly choose: (event: number) => void) {}
+    constructor(private readonly choose: (event: number) => void) {}
 
     private linked(line: HTMLTableRowElement, event: number): HTMLTableRowElement {
         return pressed(line, () => this.choose(event));
-    }
-
-    private dayHeads(): string[] { return this.day.times ? [DAY.column] : []; }
-    private dayCells(records: Records, index: number|null): string[] {
-        const { day } = this;
-        if (!day.times) return [];
-        return [utcText(index === null ? null : day.of(records.life(index), records.moment(index)))];
     }
 
     showLives(records: Records, replays: Replay[]): void {
         const rows = replays.map(life => {
             const index = records.find(life.first), record = index === null ? null : records.get(index);
             const word = record?.kind === POWER_UP ? WORDS[record.payload[0] ?? 0] ?? "" : "not there";
-            return this.linked(row(...lifeCells(life, word), ...this.dayCells(records, index)),
-                life.verdict === 2 ? life.event : life.first);
+            return this.linked(row(...lifeCells(life, word)), life.verdict === 2 ? life.event : life.first);
         });
-        show("lives", table(["life", "events", "power-up", "replay", ...this.dayHeads()], rows));
+        show("lives", table(["life", "events", "power-up", "replay"], rows));
     }
 
-    showInterventions(records: Records, interventions: Intervention[], speeds: Float64Array, trips: number[],
-        causes: Map<number, Why|string>): void {
-        const all = interventions.filter(one => !one.isPowerUp), rows = all.slice(-MOST_SHOWN).map(one => {
+    showInterventions({ interventions, speeds, trips, counted }: AskedImage, records: Records): void {
+        const all = interventions.filter(one => !one.isPowerUp), causes = counted;
+        const rows = all.slice(-MOST_SHOWN).map(one => {
             const texts = interventionTexts(records, one, speeds[one.first] ?? NaN, trips, causes);
-            return this.linked(row(...texts, ...this.dayCells(records, one.first)), records.event(one.first));
+            return this.linked(row(...texts), records.event(one.first));
         });
-        const heads = ["events", "place", "time", "speed", "limit", "command", "causes", ...this.dayHeads()];
-        show("interventions", all.length ? table(heads, rows) : BRIEF.noIntervention,
-            all.length > MOST_SHOWN && make("p", {}, BRAKED.more(count(MOST_SHOWN), count(all.length))));
+        const heads = ["events", "place", "time", "speed", "limit", "command", "causes"];
+        show("interventions", all.length ? table(heads, rows) : BRIEF.noIntervention, moreText(all.length));
     }
 
-    /** The brake commands; the charts are of the last one that was given to a train that moved. */
-    showBraking(records: Records, all: Braking[]): void {
-        const some = all.slice(-MOST_SHOWN), lines = new Map<Braking, HTMLTableRowElement>();
-        const choose = (one: Braking): void => {
-            for (const [other, line] of lines) line.classList.toggle("chosen", one === other);
-            at("braking").scrollTop = (lines.get(one)?.offsetTop ?? 0) - ABOVE;
-            drawBraking(records, one);
-        };
-        for (const one of some)
-            lines.set(one, pressed(row(...brakingCells(one)), () => {
-                choose(one);
-                this.choose(one.first_event);
-            }));
-        show("braking", all.length ? table(BRAKED.heads, [...lines.values()]) : BRAKED.none,
-            all.length > MOST_SHOWN && make("p", {}, BRAKED.more(count(MOST_SHOWN), count(all.length))));
-        const moving = [...some].reverse().find(isDrawn) ?? some[some.length - 1];
-        at("braking-charts").hidden = !moving;
-        if (moving) choose(moving);
+    showBraking(all: Braking[]): void {
+        const rows = all.slice(-MOST_SHOWN).map(one => this.linked(row(...brakingCells(one)), one.first_event));
+        show("braking", all.length ? table(BRAKED.heads, rows) : BRAKED.none, moreText(all.length));
     }
 }
 
-function isDrawn(one: Braking): boolean { return one.answer !== "standing" && one.answer !== "too_few"; }
+function moreText(all: number): Child {
+    return all > MOST_SHOWN && make("p", {}, BRAKED.more(count(MOST_SHOWN), count(all)));
+}
 
 /** A text whose last word, a unit, stays in the line of its number. */
 function inLine(text: string): string { return text.replace(/ (\S+)$/, "\u00a0$1"); }
@@ -95,7 +71,8 @@ function comparedText(name: string, said: Promise): Child {
 
 /** The cells of a brake command. */
 function brakingCells(one: Braking): Child[] {
-    const isSeen = isDrawn(one), events = `${count(one.first_event)} to ${count(one.last_event)}`;
+    const isSeen = one.answer !== "standing" && one.answer !== "too_few";
+    const events = `${count(one.first_event)} to ${count(one.last_event)}`;
     const both = (ms: Pair, cm: Pair): Child =>
         isSeen && make("span", {}, pairText(ms, seconds), make("br"), pairText(cm, metres));
     const command =
@@ -117,37 +94,4 @@ function brakingCells(one: Braking): Child[] {
             make("span", {}, comparedText("reaction", one.reaction), comparedText("rate", one.rate),
                 comparedText("way", one.way))
     ];
-}
-
-/** Draws the speed after a command over distance and over time, with the curve that the train data promise. */
-function drawBraking(records: Records, one: Braking): void {
-    const points = isDrawn(one) ? pointsOf(records, one) : [];
-    const { speed_m_per_h: v0, deceleration_cm_per_s2: deceleration, reaction_ms: reaction } = one;
-    const isPromised = points.length > 0 && v0 !== null && deceleration !== null && reaction !== null;
-    const curve = isPromised ? promisedCurve(v0, { deceleration, reaction }) : [];
-    const events = `${count(one.first_event)} to ${count(one.last_event)}`;
-    const both = {
-        speed: points.map(({ speed }) => speed),
-        limit: [],
-        cursor: null,
-        marks: [],
-        pick: null,
-        empty: BRAKED.nothing
-    };
-    draw(at("braking-place") as unknown as SVGSVGElement, {
-        ...both,
-        x: points.map(({ cm }) => cm),
-        unit: "m",
-        per: 100,
-        title: BRAKED.title("distance", events),
-        curve: curve.map(({ cm, speed }) => [cm, speed])
-    });
-    draw(at("braking-time") as unknown as SVGSVGElement, {
-        ...both,
-        x: points.map(({ ms }) => ms),
-        unit: "s",
-        per: 1000,
-        title: BRAKED.title("time", events),
-        curve: curve.map(({ ms, speed }) => [ms, speed])
-    });
 }

@@ -1,8 +1,7 @@
 // Where the page begins: the module is compiled once, for the desk and for the worker.
 import {Ask} from "./ask";
 import {Asker} from "./asker";
-import {Calls, Records} from "./calls";
-import {columnsOf} from "./columns";
+import {Calls} from "./calls";
 import {balisesOf, Course} from "./course";
 import {at, say} from "./dom";
 import {Drive} from "./drive";
@@ -11,17 +10,15 @@ import {bitsOf} from "./hex";
 import {faultAt} from "./judging";
 import {caseOf, setKeeping} from "./keeping";
 import {setKeys} from "./keys";
-import {formatted, Life, openAt, recordsOf} from "./life";
+import {columnsOf, drawnOf} from "./drawing";
+import {formatted, Life, openAt} from "./life";
 import {Order, Report} from "./messages";
-import {groupsBy, implausibleOf} from "./plausibility";
 import {readScenario} from "./scenario";
-import {general} from "./shown";
 import {choose, whenAsked} from "./tabs";
 import {SAY} from "./texts";
 import {Telegram} from "./telegram";
 import {given, telegrams} from "./tracks";
 import {Motion, round} from "./train";
-import {implausibleText} from "./wording";
 
 /** A module with a memory of 64 bits, and nothing else. */
 const PROBE = Uint8Array.of(0, 0x61, 0x73, 0x6d, 1, 0, 0, 0, 5, 3, 1, 4, 1);
@@ -50,7 +47,7 @@ async function begin(): Promise<void> {
     const start = (hear: (report: Report) => void): Worker => {
         const worker = new Worker(url);
         worker.onmessage = (event: MessageEvent<Report>) => hear(event.data);
-        worker.postMessage({ kind: "module", module, grammar: given.grammar } as Order);
+        worker.postMessage({ kind: "module", module } as Order);
         return worker;
     };
     const ask: Ask = new Ask(start(report => ask.hear(report)), calls);
@@ -75,7 +72,6 @@ async function begin(): Promise<void> {
                 Life,
                 formatted,
                 openAt,
-                recordsOf,
                 Motion,
                 round,
                 caseOf,
@@ -84,11 +80,7 @@ async function begin(): Promise<void> {
                 bitsOf,
                 faultAt,
                 columnsOf,
-                Records,
-                implausibleOf,
-                implausibleText,
-                general,
-                groupOf: groupsBy(calls, given.grammar)
+                drawnOf
             }
         }
     });

@@ -1,19 +1,10 @@
 // What the page and its worker say to each other.
 import {Braking} from "./braking";
 import {Block, Facts, Replay, Slot, Why} from "./layouts";
-import {Grammar} from "./grammar";
 import {Intervention, LifeRange} from "./lives";
-import {Finding} from "./plausibility";
 import {Signals} from "./signals";
 
-/** The module, before all other orders. */
-export interface ModuleOrder {
-    kind: "module";
-    module: WebAssembly.Module;
-    /** By which groups of telegrams are read. */
-    grammar: Grammar
-}
-/** Reads an image. */
+/** Reads an image, and forgets the one before. */
 export interface ImageOrder {
     kind: "image";
     id: number;
@@ -23,41 +14,23 @@ export interface ImageOrder {
     /** How many bytes are read; null where all are. */
     first: number|null
 }
-/** Forgets an image. */
-export interface DropOrder {
-    kind: "drop";
-    id: number
-}
-/** Asks why an event of an image that has been read was answered so. */
-export interface WhyOrder {
+/**
+ * The module, before all other orders; an image; why an event of the image that was read was answered so; and the same
+ * of an image that comes along.
+ */
+export type Order = { kind: "module"; module: WebAssembly.Module }|ImageOrder|
+    { kind: "why"; id: number; block: number; event: number }|
+    { kind: "once"; id: number; bytes: ArrayBuffer; block: number; event: number };
+
+export interface WhyReport {
     kind: "why";
     id: number;
+    event: number;
     block: number;
-    event: number
-}
-/** The same of an image that comes along. */
-export interface OnceOrder {
-    kind: "once";
-    id: number;
-    bytes: ArrayBuffer;
-    block: number;
-    event: number
-}
-export type Order = ModuleOrder|ImageOrder|DropOrder|WhyOrder|OnceOrder;
-
-/** The bytes of an image, and their SHA-256, taken before anything reads them. */
-export interface BytesReport {
-    kind: "bytes";
-    id: number;
-    bytes: ArrayBuffer;
-    digest: string
-}
-export interface FactsReport {
-    kind: "facts";
-    id: number;
     status: number;
-    facts: Facts|null
+    why: Why|null
 }
+/** What comes of the records of an image. */
 export interface RecordsReport {
     kind: "records";
     id: number;
@@ -68,17 +41,8 @@ export interface RecordsReport {
     speeds: Float64Array;
     signals: Signals;
     interventions: Intervention[];
-    trips: number[]
-}
-export interface BrakingReport {
-    kind: "braking";
-    id: number;
-    rows: Braking[]
-}
-export interface ImplausibleReport {
-    kind: "implausible";
-    id: number;
-    findings: Finding[]
+    trips: number[];
+    braking: Braking[]
 }
 export interface SlotsReport {
     kind: "slots";
@@ -89,44 +53,13 @@ export interface SlotsReport {
     heads: Head[];
     isWhole: boolean
 }
-export interface ReplayReport {
-    kind: "replay";
-    id: number;
-    lives: Replay[];
-    unreadable: number[];
-    status: number
-}
-export interface CausesReport {
-    kind: "causes";
-    id: number;
-    causes: [number, Why|null][]
-}
-export interface WhyReport {
-    kind: "why";
-    id: number;
-    event: number;
-    block: number;
-    status: number;
-    why: Why|null
-}
-export interface ProgressReport {
-    kind: "progress";
-    id: number;
-    what: string;
-    done: number;
-    all: number
-}
-export interface DoneReport {
-    kind: "done";
-    id: number
-}
-export interface FailedReport {
-    kind: "failed";
-    id: number;
-    says: string
-}
-export type Report = BytesReport|FactsReport|RecordsReport|BrakingReport|ImplausibleReport|SlotsReport|ReplayReport|
-    CausesReport|WhyReport|ProgressReport|DoneReport|FailedReport;
+/** The digest of the bytes is taken before anything reads them. */
+export type Report = { kind: "bytes"; id: number; bytes: ArrayBuffer; digest: string }|
+    { kind: "facts"; id: number; status: number; facts: Facts|null }|RecordsReport|SlotsReport|
+    { kind: "replay"; id: number; lives: Replay[]; unreadable: number[]; status: number }|
+    { kind: "causes"; id: number; causes: [number, Why|null][] }|WhyReport|
+    { kind: "progress"; id: number; what: string; done: number; all: number }|{ kind: "done"; id: number }|
+    { kind: "failed"; id: number; says: string };
 
 /** The block after the newest, which was being written: its number, life and events. */
 export interface Unwritten {
@@ -137,10 +70,4 @@ export interface Unwritten {
 }
 
 /** What of the head of a block is asked for all of them: whether one follows the other. */
-export interface Head {
-    number: number;
-    firstEvent: number;
-    events: number;
-    lives: number;
-    records: number
-}
+export type Head = Pick<Block, "number"|"firstEvent"|"events"|"lives"|"records">;

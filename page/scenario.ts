@@ -78,7 +78,7 @@ function action(value: unknown, place: string): (number|string)[] {
     const [code, ...values] = elements(value, place), limits = VALUES[Number(code)];
     if (code === 1) {
         if (values.length !== 1 || typeof values[0] !== "string" || !/^[ -~]{1,16}$/.test(values[0]))
-            throw new NotScenario(`${place}: an identity of 1 to 16 printable characters is wanted`);
+            throw new NotScenario(`${place}: an identity of 1 to 16 printable ASCII characters is wanted`);
         return [1, values[0]];
     }
     if (typeof code !== "number" || !limits || limits.length !== values.length)

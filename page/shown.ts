@@ -7,14 +7,6 @@ import {BRAKES, DATUM, KINDS_OWED, PLAIN_ACTIONS, SAY, SUBJECTS, WORDS} from "./
 export function kmh(speed: number): string { return (speed / 1000).toFixed(1); }
 /** A speed; NaN is one that no reading gives. */
 export function speedText(speed: number): string { return Number.isNaN(speed) ? SAY.unknown : `${kmh(speed)} km/h`; }
-/** A whole number of hundredths or thousandths with six digits at most, as Python's `:g` writes it. */
-export function general(number: number, by: number): string {
-    const value = number / by, exact = value.toExponential(40), tie = /^-?\d\.\d{4}[02468]50*e/.test(exact);
-    const [digits = "", power = ""] = (tie ? exact.replace(/(\.\d{5})\d*/, "$1") : value.toExponential(5)).split("e");
-    const times = Number(power), short = digits.replace(/\.?0*$/, "");
-    if (times < 6) return String(Number(`${digits}e${power}`));
-    return `${short}e+${String(times).padStart(2, "0")}`;
-}
 export function metres(cm: number|bigint): string {
     if (typeof cm === "bigint") return `${(cm / 100n).toLocaleString("en")}.${String(cm % 100n).padStart(2, "0")} m`;
     return (cm / 100).toLocaleString("en", { minimumFractionDigits: 2, maximumFractionDigits: 2 }) + " m";

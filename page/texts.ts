@@ -91,20 +91,8 @@ export const SAY = {
         `${name} isn't read: it has more than 512 MB, and the page reads images up to that size.`,
     tooSmall: (name: string): string => `${name} isn't an image: it has less than one sector of 512 bytes.`,
     noImage: (name: string, why: string): string => `${name}: ${why}.`,
-    noImageYet: "Choose the image first: marks and an identity belong to an image.",
-    whose: (name: string): string =>
-        `${name} isn't used: no image that is shown has this name without its ending. Drop it with its image.`,
-    tooMany: (name: string, most: number): string =>
-        `${name} isn't read: ${most} images are shown already. Remove one first.`,
-    tooMuch: (name: string): string =>
-        `${name} isn't read: together with the other images it has more than 512 MB. Remove one first.`,
-    same: (name: string, letter: string, other: string): string =>
-        `${name} isn't shown again: it has the SHA-256 of ${letter}, ${other}.`,
-    noIdentity: (name: string, why: string): string => `${name} isn't used: ${why}.`,
-    strangers: (name: string, says: string, letter: string, other: string): string =>
-        `${name} is of ${says}, and ${letter} of ${other}.`,
-    tooManyMarks: (name: string): string =>
-        `${name} isn't read: it has more than 16 MB, and the page reads marks up to that size.`,
+    oneOnly: (files: number): string =>
+        `${files} files were handed over, and none is read: the page reads one image at a time.`,
     bySlots: (slots: number): string => `By its size it could have ${slots.toLocaleString("en")} slots. ` +
         "Enter their number to read it as if its first sector said so; the file stays as it is.",
     cutOff: (name: string, bytes: number, slots: number, expected: number): string =>
@@ -171,20 +159,6 @@ export const BRIEF = {
         `None of the outputs of block ${block}, events ${first} to ${last}, left the unit: it was being written`,
     powerUps: (number: number): string => `${number}; after each the emergency brake is commanded until ` +
         "the driver has revalidated, which isn't counted as an intervention",
-};
-
-/** Of the time of day by marks (docs/howto/time-of-day.md). */
-export const DAY = {
-    noMarks: "A journal has no time of day. Marks may give one, outside the journal and outside the proof.",
-    count: (marks: number): string => marks === 1 ? "1 mark" : `${marks.toLocaleString("en")} marks`,
-    after: "An event came at its UTC or after it, before the next moment of its life.",
-    outside: "outside the journal and outside the proof",
-    byMarks: "by marks",
-    column: "UTC by marks, outside the journal and the proof",
-    axis: (date: string): string => `UTC by marks, from ${date} on`,
-    none: "unknown",
-    more: (faults: number): string => `${faults.toLocaleString("en")} more`,
-    notOfLife: (life: number): string => `There is no UTC for this moment of life ${life} by these marks`,
 };
 
 /** The editor of tracks. */

@@ -1,25 +1,22 @@
-// Reads images apart from the page, so that the page never waits: facts, records, what is implausible, slots, replays
-// and causes, in this order.
+// Reads an image apart from the page, so that the page never waits: facts, records, slots, replays and causes, in this
+// order.
 import {brakingOf} from "./braking";
 import {AT_ONCE, Calls, END, Held, OK, Records} from "./calls";
-import {Grammar} from "./grammar";
 import {hexOf} from "./hex";
 import {Block, BYTES, Facts, Replay, SECTOR, Slot, Why} from "./layouts";
 import {askedOf, Intervention, interventionsOf, lastOf, livesOf, speedsOf, tripsOf} from "./lives";
 import {Head, ImageOrder, Order, Report, Unwritten} from "./messages";
-import {groupsBy, Judge} from "./plausibility";
 import {signalsOf} from "./signals";
 import {SAY} from "./texts";
 import {isWhole} from "./whole";
 
 const send = (report: Report, transfer: Transferable[] = []): void =>
     (postMessage as (message: Report, transfer: Transferable[]) => void)(report, transfer);
-const EACH_MS = 50, UNWRITTEN = 5, VERSION = 2, JUDGED = 1024;
+const EACH_MS = 50, UNWRITTEN = 5, VERSION = 2;
 const channel = new MessageChannel();
 let calls: Promise<Calls>|null = null;
-let grammar: Grammar|null = null;
-/** The images that are asked for, and those of them that the memory holds. */
-const wanted = new Set<number>(), held = new Map<number, Held>();
+/** The image that is asked for, and the one that the memory holds. */
+let wanted = 0, held: Held&{ id: number }|null = null;
 /** Images are read one after the other. */
 let reading: Promise<void> = Promise.resolve();
 
@@ -44,13 +41,13 @@ async function pieces(
     let begun = Date.now();
     send({ kind: "progress", id, what, done: 0, all });
     await pause();
-    for (let done = 0; wanted.has(id) && work(done); done++) {
+    for (let done = 0; wanted === id && work(done); done++) {
         if (Date.now() - begun < EACH_MS) continue;
         send({ kind: "progress", id, what, done: each * done, all });
         await pause();
         begun = Date.now();
     }
-    return wanted.has(id);
+    return wanted === id;
 }
 
 async function readRecords(calls: Calls, id: number, held: Held): Promise<Read|null> {
@@ -77,23 +74,10 @@ async function readRecords(calls: Calls, id: number, held: Held): Promise<Read|n
     if (!isRead) return null;
     const own = room.subarray(0, BYTES.record * count), bytes = own.slice(), records = new Records(own);
     const lives = livesOf(records), speeds = speedsOf(records, lives), interventions = interventionsOf(records, lives);
-    const trips = tripsOf(records, lives), [signals, buffers] = signalsOf(own, records, speeds);
-    send({ kind: "records", id, status, bytes: bytes.buffer, unreadable, lives, speeds, signals, interventions, trips },
-        [bytes.buffer, ...buffers]);
-    send({ kind: "braking", id, rows: brakingOf(records) });
-    return await judge(calls, id, records) ? { records, status, interventions, trips } : null;
-}
-
-/** What is implausible. */
-async function judge(calls: Calls, id: number, records: Records): Promise<boolean> {
-    const one = new Judge(records, groupsBy(calls, grammar as Grammar));
-    const isDone = await pieces(id, "readings judged", records.count, done => {
-        const first = JUDGED * done, end = Math.min(records.count, first + JUDGED);
-        for (let n = first; n < end; n++) one.add(n);
-        return end < records.count;
-    }, JUDGED);
-    if (isDone) send({ kind: "implausible", id, findings: one.end() });
-    return isDone;
+    const trips = tripsOf(records, lives), signals = signalsOf(records, speeds);
+    const found = { unreadable, lives, speeds, signals, interventions, trips, braking: brakingOf(records) };
+    send({ kind: "records", id, status, bytes: bytes.buffer, ...found }, [bytes.buffer]);
+    return { records, status, interventions, trips };
 }
 
 async function readSlots(calls: Calls, id: number, held: Held, facts: Facts, read: Read): Promise<boolean> {
@@ -186,12 +170,14 @@ function withSlots(bytes: Uint8Array, slots: number): Uint8Array {
 }
 
 async function read(calls: Calls, { id, file, slots, first }: ImageOrder): Promise<void> {
+    if (held) calls.drop(held);
+    held = null;
     const bytes = new Uint8Array(await file.arrayBuffer());
     const digest = hexOf(new Uint8Array(await crypto.subtle.digest("SHA-256", bytes)));
-    if (!wanted.has(id)) return;
+    if (wanted !== id) return;
     const begin = bytes.subarray(0, first ?? bytes.length);
     const one = calls.hold(slots === null ? begin : withSlots(begin, slots));
-    held.set(id, one);
+    held = {...one, id };
     send({ kind: "bytes", id, bytes: bytes.buffer, digest }, [bytes.buffer]);
     const { status, value } = calls.facts(one);
     send({ kind: "facts", id, status, facts: value });
@@ -204,27 +190,17 @@ async function read(calls: Calls, { id, file, slots, first }: ImageOrder): Promi
     send({ kind: "done", id });
 }
 
-/** Gives back the memory of an image, once nothing reads it. */
-async function drop(calls: Calls, id: number): Promise<void> {
-    await reading;
-    const one = held.get(id);
-    if (one) calls.drop(one);
-    held.delete(id);
-}
-
 async function obey(order: Order): Promise<void> {
     if (order.kind === "module") {
-        grammar = order.grammar;
         calls = WebAssembly.instantiate(order.module, {}).then(instance => Calls.of(instance));
         return;
     }
     if (!calls) throw new Error("there is no module yet");
     const ready = await calls;
     if (order.kind === "image") await read(ready, order);
-    else if (order.kind === "drop") await drop(ready, order.id);
     else {
-        const one = order.kind === "once" ? ready.hold(new Uint8Array(order.bytes)) : held.get(order.id);
-        if (!one || order.kind === "why" && !wanted.has(order.id)) return;
+        const one = order.kind === "once" ? ready.hold(new Uint8Array(order.bytes)) : held;
+        if (!one || order.kind === "why" && held?.id !== order.id) return;
         const { status, value } = ready.why(one, order.block, order.event);
         send({ kind: "why", id: order.id, event: order.event, block: order.block, status, why: value });
         if (order.kind === "once") ready.drop(one);
@@ -239,10 +215,7 @@ onmessage = (event: MessageEvent<Order>) => {
         says: error instanceof DOMException ? SAY.unreadableFile : String(error)
     }));
     if (order.kind === "image") {
-        wanted.add(order.id);
+        wanted = order.id;
         reading = reading.then(obeyed);
-    } else {
-        if (order.kind === "drop") wanted.delete(order.id);
-        void obeyed();
-    }
+    } else void obeyed();
 };

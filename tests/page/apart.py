@@ -1,21 +1,32 @@
-"""Parsed telegrams: what bits are read as, where a fault is, and the effect of a number that is altered in its field."""
+"""Telegrams by their variables, and parsed ones: what bits are read as, where a fault is, and the effect of a number that is altered in its field."""
 import random
+import re
 import sys
 from pathlib import Path
 from typing import Any
 
+import yaml
 from asking import image
 from browsing import Browser
 from desks import TOP
 from gaknifur import program
 from gaknifur.testing import telegrams
-from own import texts
 
 sys.path.append(str(TOP / "tests/plain"))
 import decoded  # noqa: E402
 import track_packets  # noqa: E402
 
-READ, SPOILED, ALTERED = 400, 300, 120
+READ, SPOILED, ALTERED, CHANGED_TEXTS = 400, 300, 120, 600
+DECODE = """
+const { telegrams } = window.gaknifur.parts, decoded = telegrams.read(arguments[0]);
+let text = telegrams.text(decoded), again = '';
+try { again = telegrams.digits(telegrams.parsed(text)); } catch (error) { again = error.message; }
+return [decoded.header, decoded.packets, again];
+"""
+ENCODE = """
+const { telegrams } = window.gaknifur.parts;
+return arguments[0].map(text => { try { return telegrams.digits(telegrams.parsed(text)); } catch (error) { return '!' + error.constructor.name; } });
+"""
 TAKE = """
 const { telegrams, bitsOf } = window.gaknifur.parts;
 return arguments[0].map(digits => { const { end, header, packets } = telegrams.reader.read(bitsOf(digits));
@@ -45,6 +56,78 @@ const [number, done] = arguments;
 [...document.querySelectorAll('#telegram-form button')].find(one => one.textContent === 'Remove packet ' + number).click();
 setTimeout(() => done(document.getElementById('telegram-hex').value), 1);
 """
+
+
+def texts() -> list[str]:
+    """The telegrams of the corpus that are written by their variables."""
+    found: list[str] = []
+
+    def walk(value: Any) -> None:
+        if isinstance(value, str) and "NID_BG" in value:
+            found.append(value)
+        for one in value.values() if isinstance(value, dict) else value if isinstance(value, list) else ():
+            walk(one)
+    for path in sorted([*(TOP / "suites").glob("*.yaml"), *(TOP / "page/tracks").glob("*.yaml")]):
+        for document in yaml.safe_load_all(path.read_text(encoding="utf-8")):
+            walk(document)
+    return sorted(set(found))
+
+
+def changed(text: str, dice: random.Random) -> str:
+    """A telegram in which a number or a variable is another one, is gone, or is more."""
+    parts = re.split("([,;:])", text)
+    at = dice.randrange(0, len(parts), 2)
+    kind = dice.randrange(5)
+    if kind == 0:
+        parts[at] = re.sub(r"\d+$", str(dice.choice((0, 1, 2, 3, 15, 127, 255, 32767, 10**6))), parts[at])
+    elif kind == 1:
+        parts[at] = dice.choice(("", " X 1", " N_ITER 1", " N_ITER 0", " L_PACKET 50", " Q_SCALE 2", " 44", " Q_DIR 1", " NID_C", " D_DP 50"))
+    elif kind == 2:
+        del parts[at:at + 2]
+    else:
+        parts[at:at] = [dice.choice((" Q_SCALE 0", " N_ITER 2", " Q_FRONT 1", " 66: NID_TSR 1", " 44: ", " T_LOA 60", " V_LOA 3")), dice.choice(",;")]
+    return "".join(parts)
+
+
+def by_package(text: str) -> str:
+    """The digits of a telegram, by the package."""
+    try:
+        return telegrams.telegram(text).digits
+    except telegrams.Wrong:
+        return "!Wrong"
+
+
+def front_of(digits: str, count: int) -> str:
+    """The first bits of some digits."""
+    return f"{int(digits, 16):0{4 * len(digits)}b}"[:count]
+
+
+def variables(browser: Browser, _page: Path, _folder: Path) -> int:
+    """Telegrams by their variables come to the bits that the package writes, or are refused by both; of bits the fields are those of `etcs decode`."""
+    dice, corpus = random.Random(683), texts()
+    tried = corpus + [changed(dice.choice(corpus), dice) for _ in range(CHANGED_TEXTS)]
+    found = browser.run(ENCODE, tried)
+    wanted = [by_package(text) for text in tried]
+    wrong = [(text, one, other) for text, one, other in zip(tried, found, wanted) if not (one == other or one[0] == other[0] == "!")]
+    assert not wrong and len(corpus) > 100, (len(corpus), wrong[:3])
+    refused, known = sum(one[0] == "!" for one in wanted), 0
+    for digits in sorted({one for one in wanted if one[0] != "!"})[::2]:
+        lines = program.decode(digits)
+        if lines[0].startswith("refused"):
+            continue
+        header, packets, again = browser.run(DECODE, digits)
+        shown = [" ".join(["telegram", *(f"{name}={number}" for name, number in header)])]
+        for packet in packets:
+            number, is_known = packet[0][1], packet[0][1] in telegrams.LAYOUTS
+            shown.append(" ".join([f"packet {number}", *(f"{name}={value}" for name, value in packet[1:None if is_known else 3]), *([] if is_known else ["skipped"])]))
+        assert shown == lines[:-1], (digits, shown, lines)
+        # (what comes after the end mark is no part of the telegram)
+        end = int(lines[-1].split()[1])
+        is_same = again == digits if 4 * len(digits) - end < 8 else front_of(again, end) == front_of(digits, end)
+        assert is_same or any("skipped" in line for line in lines), (digits, again)
+        known += 1
+    assert refused > 100 and known > 100, (refused, known)
+    return len(tried) + known
 
 
 class RandomFields(track_packets.Walk):
@@ -223,4 +306,4 @@ def altered(browser: Browser, _page: Path, _folder: Path) -> int:
     return count
 
 
-CHECKS = {"read": (read, READ), "faults": (faults, SPOILED), "by_fields": (by_fields, 20), "altered": (altered, ALTERED)}
+CHECKS = {"variables": (variables, CHANGED_TEXTS + 100), "read": (read, READ), "faults": (faults, SPOILED), "by_fields": (by_fields, 20), "altered": (altered, ALTERED)}

@@ -1,4 +1,4 @@
-"""Journal images, also altered ones: the page shows what `etcs_lab` prints."""
+"""Journal images: how they are made and altered, how what the page shows is compared with what `etcs_lab` prints, and the case of a damaged one."""
 import hashlib
 import json
 import random
@@ -11,7 +11,6 @@ from desks import TOP, etcs, random_steps
 from gaknifur import program
 from gaknifur.journal import _words
 
-ALTERED = 200
 STATES = ("empty", "block", "unreadable", "misplaced", "foreign", "unwritten", "replaced", "remains")
 RECORD = ("", "event", "word", "time_ms", "mode", "level", "brake", "indications", "place", "place_cm", "uncertainty_cm", "limit_m_per_h")
 HEAD = ("", "events", "lives", "trip_outstanding", "identity", "running_number", "train", "level", "position", "national_values", "countries")
@@ -141,35 +140,6 @@ def compare_why(index: int, why: dict[str, Any] | None, event: int, path: Path) 
     return 1
 
 
-def alterations(browser: Browser, _page: Path, folder: Path) -> int:
-    """Images, whole and altered: slots, digest, lives, and the causes of interventions."""
-    dice, count, lost, differs, whole = random.Random(21), 0, 0, 0, 0
-    made = bases(folder, dice)
-    tried = made + [altered(dice.choice(made), dice) for _ in range(ALTERED)]
-    for number, data in enumerate(tried):
-        path, at = folder / f"image{number}", f"image {number}"
-        path.write_bytes(data)
-        findings = browser.ask(path)
-        status, found = lab("examine", "--json", str(path))
-        if not findings["facts"]:
-            assert status == 1, (at, status)
-            continue
-        [wanted] = found
-        count += compare_slots(findings, wanted, at)
-        whole += findings["isWhole"]
-        if findings["status"] == 38:
-            count += compare_replay(findings, path, at)
-            differs += any(life["verdict"] in (2, 3) for life in findings["lives"])
-            causes = {index: why for index, why in findings["causes"]}
-            steps = {step["index"] for one in findings["interventions"] for step in one["steps"]}
-            assert steps | set(findings["trips"]) <= set(causes), at
-            for index, event in list(zip(causes, findings["events"]))[:6]:
-                count += compare_why(index, causes[index], event, path)
-        lost += not wanted["whole"]
-    assert whole >= 7 and lost >= 20 and differs >= 8, (whole, lost, differs)
-    return count
-
-
 def case(browser: Browser, page: Path, folder: Path) -> int:
     """The case of docs/howto/damaged-image.md: its questions are answered."""
     data = bytearray(image(folder, [example("power_cut"), example("power_cut", "restart.json"), example("trip")], 6))
@@ -217,4 +187,4 @@ def places(browser: Browser, _page: Path, folder: Path) -> int:
     return int(count)
 
 
-CHECKS = {"alterations": (alterations, 500), "case": (case, 15), "places": (places, 33)}
+CHECKS = {"case": (case, 15), "places": (places, 33)}

@@ -1,73 +1,64 @@
-"""A browser with the page open, and calls of the page, for the tests and the pictures of the page."""
+"""Debian's Chromium, headless, with the page open: for the tests and the pictures of the page."""
 import base64
-import contextlib
-import os
 import time
 from pathlib import Path
 from typing import Any, Self
 
-SECONDS = 30
+from selenium import webdriver
+from selenium.webdriver.chrome.service import Service
+from selenium.webdriver.common.by import By
 
-
-def threads_s(above: int) -> dict[str, float]:
-    """The seconds that each thread of the processes below a process has run for, by its number."""
-    found: dict[str, float] = {}
-    for task in Path(f"/proc/{above}/task").glob("*/children"):
-        for child in task.read_text(encoding="ascii").split():
-            for stat in Path(f"/proc/{child}/task").glob("*/stat"):
-                with contextlib.suppress(FileNotFoundError, ProcessLookupError):  # (it has ended)
-                    fields = stat.read_text(encoding="utf-8", errors="replace").rpartition(")")[2].split()
-                    found[stat.parent.name] = sum(map(int, fields[11:13])) / os.sysconf("SC_CLK_TCK")
-            with contextlib.suppress(FileNotFoundError, ProcessLookupError):
-                found |= threads_s(int(child))
-    return found
+WORDS = ("--headless=new", "--no-sandbox", "--disable-dev-shm-usage", "--disable-gpu", "--disable-background-networking", "--disable-component-update",
+         "--disable-extensions", "--no-first-run", "--hide-scrollbars", "--force-color-profile=srgb", "--window-size=1400,1100")
+NEVER_S = 600
+"""After this time something never ends."""
 
 
 class Browser:
-    """What is asked of a page. A browser of its own has `get`, `run`, `run_later`, `press` and `send`."""
+    """The browser and its page."""
+
+    def __init__(self) -> None:
+        options = webdriver.ChromeOptions()
+        for word in WORDS:
+            options.add_argument(word)
+        options.binary_location = "/usr/bin/chromium"
+        options.set_capability("goog:loggingPrefs", {"browser": "ALL"})
+        self.driver = webdriver.Chrome(service=Service("/usr/bin/chromedriver"), options=options)
+        self.driver.set_script_timeout(NEVER_S)
 
     def __enter__(self) -> Self:
         return self
 
     def __exit__(self, *_: object) -> None:
-        self.quit()
-
-    def quit(self) -> None:
-        """Ends the browser."""
-
-    def get(self, url: str) -> None:
-        """Goes to a page."""
-        raise NotImplementedError
+        self.driver.quit()
 
     def run(self, script: str, *words: Any) -> Any:
-        """What a script answers, within the page."""
-        raise NotImplementedError
+        """Returns what a script returns within the page."""
+        return self.driver.execute_script(script, *words)
 
     def run_later(self, script: str, *words: Any) -> Any:
-        """What a script hands to the call that is its last argument."""
-        raise NotImplementedError
-
-    def press(self, name: str) -> None:
-        """Clicks an element that is in sight."""
-        raise NotImplementedError
-
-    def send(self, name: str, text: str) -> None:
-        """Types into an element, or hands files to it."""
-        raise NotImplementedError
+        """Returns what a script hands to the call that is its last argument."""
+        return self.driver.execute_async_script(script, *words)
 
     def complaints(self) -> list[str]:
-        """What the browser complained of since the last time, where it says that."""
-        return []
+        """The warnings and errors of the browser since the last time."""
+        return [line["message"] for line in self.driver.get_log("browser") if line["level"] in ("SEVERE", "WARNING")]
+
+    def show(self, width: int = 0, height: int = 0, media: str = "") -> None:
+        """Shows the page in a window of this size, or in its own one; on a screen, or as `print` shows it."""
+        size = {"width": width, "height": height, "deviceScaleFactor": 1, "mobile": False}
+        self.driver.execute_cdp_cmd("Emulation.setDeviceMetricsOverride", size)
+        self.driver.execute_cdp_cmd("Emulation.setEmulatedMedia", {"media": media})
 
     def open(self, page: Path, hash_: str = "") -> None:
         """Opens the page anew."""
-        self.get("about:blank")
-        self.get(f"file://{page}{hash_}")
+        self.driver.get("about:blank")
+        self.driver.get(f"file://{page}{hash_}")
         self.until("return !!window.gaknifur")
 
-    def until(self, script: str, seconds: float = SECONDS) -> None:
+    def until(self, script: str) -> None:
         """Waits until a script answers true."""
-        end = time.monotonic() + seconds
+        end = time.monotonic() + NEVER_S
         while not self.run(script):
             if time.monotonic() > end:
                 raise TimeoutError(f"{script}: {self.run('return document.body.innerText')[:300]}")
@@ -77,28 +68,27 @@ class Browser:
         """Clicks buttons, as a user does."""
         for name in names:
             self.run("document.getElementById(arguments[0]).scrollIntoView({block: 'center'})", name)
-            self.press(name)
+            self.driver.find_element(By.ID, name).click()
 
     def text(self, name: str) -> str:
         """The text of an element."""
         return str(self.run("return document.getElementById(arguments[0]).textContent", name))
 
-    def hand(self, path: Path, name: str = "file", *others: Path) -> None:
-        """Chooses a file, as a user does; or several."""
-        self.run("document.getElementById('tab-ask').click(); document.getElementById(arguments[0]).value = ''", name)
-        self.send(name, "\n".join(map(str, (path, *others))))
+    def send(self, name: str, path: Path) -> None:
+        """Chooses a file."""
+        self.run("document.getElementById(arguments[0]).value = ''", name)
+        self.driver.find_element(By.ID, name).send_keys(str(path))
 
-    def ask(self, path: Path, *others: Path, seconds: float = SECONDS) -> dict[str, Any]:
-        """Removes all images, hands over one, and perhaps marks, and returns what the page shows of it once it is complete."""
-        self.run("for (let one; (one = document.querySelector('#images .remove'));) one.click()")
-        return self.ask_also(path, *others, seconds=seconds)
+    def hand(self, path: Path) -> None:
+        """Hands over an image."""
+        self.click("tab-ask")
+        self.send("file", path)
 
-    def ask_also(self, path: Path, *others: Path, seconds: float = SECONDS) -> dict[str, Any]:
-        """The same next to the images that are shown."""
+    def ask(self, path: Path) -> dict[str, Any]:
+        """Hands over an image, and returns what the page shows of it once it is complete."""
         self.run("window.before = window.gaknifur.ask.id")
-        self.hand(path, "file", *others)
-        self.until("const a = window.gaknifur.ask; return a.id > window.before && (document.getElementById('answers').hidden"
-                   " ? document.getElementById('ask-error').textContent !== '' : a.isDone)", seconds)
+        self.hand(path)
+        self.until("const a = window.gaknifur.ask; return a.id > window.before && (a.image ? a.isDone : document.getElementById('ask-error').textContent !== '')")
         return dict(self.run("return JSON.parse(JSON.stringify(window.gaknifur.ask.findings, (_, one) => typeof one === 'bigint' ? Number(one) : one))"))
 
     def image(self) -> bytes:

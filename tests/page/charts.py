@@ -1,7 +1,4 @@
-"""The chart of an image: the limit in steps, what each column has, moments in UTC where marks give them, zoom, pan, cursor, filter, and what is saved of it."""
-import csv
-import io
-import json
+"""The chart of an image: the limit in steps, what each column has, zoom, pan and cursor."""
 import random
 from pathlib import Path
 from typing import Any
@@ -9,28 +6,23 @@ from typing import Any
 from asking import bases, example, image, lab
 from braked import driven
 from browsing import Browser
-from chromium import Chromium
-from gaknifur.evidence import times
-from handing import CATCH, TEXT
 
 AXIS = "const axis = document.getElementById('viewer-axis'); axis.value = arguments[0]; axis.dispatchEvent(new Event('change')); window.gaknifur.ask.viewer.drawNow()"
 AT = """
 const path = document.querySelector('#viewer-chart .limit-line'), speed = document.querySelector('#viewer-chart .speed-line'), found = [];
 const at = (line, x) => { const all = []; for (let s = 0; s <= line.getTotalLength(); s += 0.25) { const p = line.getPointAtLength(s);
     if (Math.abs(p.x - x) < 0.4) all.push(p.y); } return all; };
-const { viewer } = window.gaknifur.ask, X = m => 58 + (document.querySelector('#viewer-chart').viewBox.baseVal.width - 68) * (100 * m - viewer.from) / (viewer.to - viewer.from);
+const { from, to } = window.gaknifur.ask.viewer.scene, X = m => 58 + (document.querySelector('#viewer-chart').viewBox.baseVal.width - 68) * (100 * m - from) / (to - from);
 for (const m of arguments[0]) { const limit = at(path, X(m)), driven = at(speed, X(m)); found.push([Math.min(...limit), Math.max(...limit), Math.max(...driven)]); }
 return found;
 """
 GRID = "return [...document.querySelectorAll('#viewer-chart text.axis[text-anchor=end]')].map(one => [one.textContent, +one.getAttribute('y')])"
 DOTS = "return ['limit-dots', 'speed-dots'].map(name => (document.querySelector('#viewer-chart .' + name)?.getAttribute('d') ?? '').split('M').length - 1)"
-TICKS = "window.gaknifur.ask.viewer.drawNow(); return [...document.querySelectorAll('#viewer-chart .tick-label')].map(one => one.textContent)"
-WINDOW = "const { viewer } = window.gaknifur.ask; viewer.drawNow(); return [viewer.from, viewer.to]"
+WINDOW = "const { viewer } = window.gaknifur.ask; viewer.drawNow(); return [viewer.scene.from, viewer.scene.to]"
 COLUMNS = """
-const [from, to, columns, kind] = arguments, [{ signals, axis, chunks }] = window.gaknifur.ask.viewer.layers, { columnsOf } = window.gaknifur.parts;
-const before = kind ? [...signals.kind].reduce((all, one) => (all.push(all[all.length - 1] + (one === kind)), all), [0]) : null;
-const all = columnsOf(signals, axis, chunks, from, to, columns, before), list = band => [...band.low].map((low, n) => low > band.high[n] ? null : [low, band.high[n]]);
-return [list(all.speed), list(all.limit), [...all.brake], [...all.mode], all.count, all.matches];
+const [from, to, columns] = arguments, scene = {...window.gaknifur.ask.viewer.scene, from, to}, { drawnOf, columnsOf } = window.gaknifur.parts, { axis, signals } = scene;
+const drawn = drawnOf(scene, signals.speed, columns, false).flat().map(n => [axis.x[n], signals.speed[n]]), { brake, count } = columnsOf(scene, columns);
+return [drawn.filter(([x, speed]) => x >= from && x < to && !Number.isNaN(speed)), [...brake], count];
 """
 POINTER = """
 const chart = document.getElementById('viewer-chart'), box = chart.getBoundingClientRect();
@@ -41,10 +33,6 @@ const chart = document.getElementById('viewer-chart'), box = chart.getBoundingCl
 return chart.dispatchEvent(new WheelEvent('wheel', {deltaY: arguments[0], clientX: box.left + arguments[1] * box.width, clientY: box.top + 90, bubbles: true, cancelable: true}));
 """
 KEY = "document.getElementById('viewer-chart').dispatchEvent(new KeyboardEvent('keydown', {key: arguments[0], bubbles: true, cancelable: true}))"
-MODES = {"FS": 0, "OS": 1, "SR": 2, "SH": 3, "UN": 4, "SB": 6, "TR": 7, "PT": 8, "SF": 9}
-SIZE = "const done = arguments[1], picture = new Image(); window.saved[arguments[0]].arrayBuffer().then(bytes => { const text = [...new Uint8Array(bytes)].map(one => String.fromCharCode(one)).join('');" \
-       "picture.onload = () => { const canvas = document.createElement('canvas'); canvas.width = picture.width; canvas.height = picture.height; const c = canvas.getContext('2d'); c.drawImage(picture, 0, 0);" \
-       "done([picture.width, picture.height, new Set(new Uint32Array(c.getImageData(0, 0, picture.width, picture.height).data.buffer)).size]); }; picture.src = 'data:image/png;base64,' + btoa(text); });"
 
 
 def steps(browser: Browser, _page: Path, folder: Path) -> int:
@@ -62,46 +50,28 @@ def steps(browser: Browser, _page: Path, folder: Path) -> int:
     return 4
 
 
-def in_utc(browser: Browser, _page: Path, folder: Path) -> int:
-    """Moments are seconds of the life, and times of day where marks give them; without the marks they are seconds again."""
-    scenario, path, marks = example("trip"), folder / "image", folder / "image.times"
-    timed = [{"clock": 0}, *(step for n, one in enumerate(scenario["steps"]) for step in (one, {"clock": 1000 * (n + 1)}))]
-    path.write_bytes(image(folder, [{"groups": scenario["groups"], "steps": timed}], 16))
-    marks.write_text(f"{times.FIRST}\n1,0,,2026-03-01T10:02:11.000Z,50,GNSS\n", encoding="utf-8")
-    browser.ask(path)
-    plain = browser.run(TICKS)
-    assert plain[:3] == ["0", "2", "4"], plain
-    browser.ask(path, marks)
-    ticks = browser.run(TICKS)
-    assert ticks[:3] == ["10:02:11", "10:02:13", "10:02:15"] and len(ticks) == len(plain), ticks
-    assert "UTC by marks, from 2026-03-01 on" in browser.text("viewer-chart")
-    browser.ask(path)
-    assert browser.run(TICKS) == plain
-    return len(plain)
-
-
-def wanted_of(records: list[Any], x: list[float], window: tuple[float, float], columns: int, kind: str | None) -> Any:
-    """What the columns of a window have: the least and the greatest speed of the records in each, and the worst brake; without what holds from before."""
+def wanted_of(records: list[Any], x: list[float], window: tuple[float, float], columns: int) -> tuple[list[Any], list[int], int]:
+    """Of the columns of a window the least and the greatest speed of the records in each, and the worst brake without what holds from before; and how many are in it."""
     speeds: list[Any] = [None] * columns
-    brakes, count, matches, speed, life = [0] * columns, 0, 0, None, None
+    brakes, count, speed, life = [0] * columns, 0, None, None
     for record, place in zip(records, x):
         speed = record["speed_m_per_h"] if record["kind"] == "odometer" else speed if record["life"] == life else 0 if record["kind"] == "powerup" else None
         life = record["life"]
         if not window[0] <= place < window[1]:
             continue
-        column = int((place - window[0]) * (columns / (window[1] - window[0])))
+        column = int((place - window[0]) * columns / (window[1] - window[0]))
         if column >= columns:
             continue
         if speed is not None:
             low, high = speeds[column] or (speed, speed)
             speeds[column] = [min(low, speed), max(high, speed)]
         brakes[column] = max(brakes[column], ("none", "service", "emergency").index(record["brake"]))
-        count, matches = count + 1, matches + (kind in (None, record["kind"]))
-    return speeds, brakes, count, matches
+        count += 1
+    return speeds, brakes, count
 
 
 def columns_hold(browser: Browser, _page: Path, folder: Path) -> int:
-    """Of random windows: each column has the least and the greatest speed of its records, its worst brake, and as many events as match."""
+    """Of random windows: of each column the least and the greatest speed of its records are drawn, and its worst brake; and its events are counted."""
     dice, count = random.Random(9), 0
     restless = driven(tuple((250 * n, dice.randrange(300), dice.randrange(38_000)) for n in range(600)), None)
     for number, data in enumerate([*bases(folder, dice), image(folder, [restless, restless], 400)]):
@@ -111,7 +81,7 @@ def columns_hold(browser: Browser, _page: Path, folder: Path) -> int:
         records = [line for line in lab("events", str(path))[1] if "event" in line]
         for axis in ("moment", "place"):
             browser.run(AXIS, axis)
-            x, spans = browser.run("const [{ axis }] = window.gaknifur.ask.viewer.layers; return [[...axis.x], axis.spans.map(one => [one.life.from, one.life.end, one.low, one.high])]")
+            x, spans = browser.run("const { axis } = window.gaknifur.ask.viewer.scene; return [[...axis.x], axis.spans.map(one => [one.life.from, one.life.end, one.low, one.high])]")
             values = [record["time_ms" if axis == "moment" else "place_cm"] for record in records]
             assert [span[0] for span in spans] == [n for n, one in enumerate(records) if not n or one["life"] != records[n - 1]["life"]], spans
             for first, end, low, _ in spans:  # (each life keeps its distances, and none covers another)
@@ -119,11 +89,17 @@ def columns_hold(browser: Browser, _page: Path, folder: Path) -> int:
             assert all(one[3] < other[2] for one, other in zip(spans, spans[1:])), spans
             for _ in range(4):
                 window = sorted(dice.uniform(min(x) - 10, max(x) + 10) for _ in range(2))
-                columns, kind = dice.choice((1, 7, 100)), dice.choice((0, 2, 3, 5))
-                speed, _, brake, _, seen, matching = browser.run(COLUMNS, *window, columns, kind)
-                wanted = wanted_of(records, x, (window[0], window[1]), columns, {2: "telegram", 3: "odometer", 5: "driver"}.get(kind))
-                assert (speed, seen, matching) == (wanted[0], *wanted[2:]), (number, axis, window, columns, speed, wanted)
-                assert all(one >= other for one, other in zip(brake, wanted[1])), (number, axis, window, brake, wanted[1])
+                columns = dice.choice((1, 7, 100))
+                drawn, brake, seen = browser.run(COLUMNS, *window, columns)
+                speeds, brakes, wanted = wanted_of(records, x, (window[0], window[1]), columns)
+                found: list[Any] = [None] * columns
+                for place, speed in drawn:
+                    column = int((place - window[0]) * columns / (window[1] - window[0]))
+                    if column < columns:
+                        low, high = found[column] or (speed, speed)
+                        found[column] = [min(low, speed), max(high, speed)]
+                assert (found, seen) == (speeds, wanted), (number, axis, window, columns, found, speeds)
+                assert all(one >= other for one, other in zip(brake, brakes)), (number, axis, window, brake, brakes)
                 count += columns
     return count
 
@@ -159,56 +135,18 @@ def moves(browser: Browser, _page: Path, folder: Path) -> int:
     browser.run(KEY, "0")
     assert browser.run(WINDOW) == all_
     index = browser.run("return window.gaknifur.ask.records.find(24)")
-    part = browser.run("const { viewer } = window.gaknifur.ask, { width } = viewer.root.viewBox.baseVal; return (58 + (width - 68) * (viewer.layers[0].axis.x[arguments[0]] - viewer.from) / (viewer.to - viewer.from)) / width", index)
+    part = browser.run("const { viewer } = window.gaknifur.ask, { width } = viewer.root.viewBox.baseVal; return (58 + (width - 68) * (viewer.scene.axis.x[arguments[0]] - viewer.scene.from) / (viewer.scene.to - viewer.scene.from)) / width", index)
     browser.run(POINTER, [["pointerdown", 1, part], ["pointerup", 1, part]])
-    assert browser.run("const { ask } = window.gaknifur; return ask.viewer.layers[0].axis.x[ask.index] === ask.viewer.layers[0].axis.x[arguments[0]]", index)
+    assert browser.run("const { ask } = window.gaknifur; return ask.viewer.scene.axis.x[ask.index] === ask.viewer.scene.axis.x[arguments[0]]", index)
     browser.run("window.gaknifur.ask.chooseEvent(24)")
     said = browser.text("viewer-at")
     assert said == ("At the cursor: speed 15.0 km/h; limit, which is the permitted speed, 0.0 km/h; emergency brake; Full Supervision; level 1; front 300.00 m;"
                     " moment 0 s."), said
-    browser.run("const { viewer } = window.gaknifur.ask; viewer.zoom(0.05, viewer.layers[0].axis.low)")
+    browser.run("const { viewer } = window.gaknifur.ask; viewer.zoom(0.05, viewer.scene.axis.low)")
     browser.run("window.gaknifur.ask.choose(window.gaknifur.ask.records.count - 1)")
-    window, x = browser.run(WINDOW), browser.run("const { ask } = window.gaknifur; return ask.viewer.layers[0].axis.x[ask.index]")
+    window, x = browser.run(WINDOW), browser.run("const { ask } = window.gaknifur; return ask.viewer.scene.axis.x[ask.index]")
     assert window[0] <= x <= window[1], (window, x)
     return 14
 
 
-def filters(browser: Browser, _page: Path, folder: Path) -> int:
-    """The filter steers the steps from event to event and what is saved; CSV, JSON and PNG have what is seen."""
-    path = folder / "image"
-    path.write_bytes(image(folder, [example("power_cut"), example("power_cut", "restart.json"), example("trip")], 16))
-    browser.ask(path)
-    records = [line for line in lab("events", str(path))[1] if "event" in line]
-    choose = "const s = document.getElementById('filter-' + arguments[0]); s.value = [...s.options].find(one => one.textContent === arguments[1]).value; s.dispatchEvent(new Event('change'))"
-    browser.run(choose, "kind", "odometer")
-    browser.run(choose, "brake", "emergency brake")
-    wanted = [one["event"] for one in records if (one["kind"], one["brake"]) == ("odometer", "emergency")]
-    assert len(wanted) >= 3, wanted
-    found = []
-    browser.click("first")
-    for _ in range(len(wanted) + 1):
-        found.append(browser.run("const { ask } = window.gaknifur; return ask.records.event(ask.index)"))
-        browser.click("after")
-    assert found == [*wanted, wanted[-1]] and browser.text("filter-said") == "No further event matches.", (found, wanted)
-    browser.run("window.gaknifur.ask.viewer.drawNow()")
-    assert browser.text("viewer-said") == f"{len(records)} of {len(records)} events are in the window; {len(wanted)} of these match the filter.", browser.text("viewer-said")
-    browser.run(CATCH)
-    browser.click("save-seen-csv", "save-seen-json", "save-png")
-    rows = list(csv.DictReader(io.StringIO(browser.run_later(TEXT, "image.seen.csv"))))
-    assert [int(row["event"]) for row in rows] == wanted, rows
-    saved = json.loads(browser.run_later(TEXT, "image.seen.json"))
-    assert [one["event"] for one in saved["images"][0]["events"]] == wanted and saved["seen"]["filter"] == {"kind": "odometer", "brake": "emergency brake"}, saved["seen"]
-    browser.until("return 'image.seen.png' in window.saved")
-    width, height, colours = browser.run_later(SIZE, "image.seen.png")
-    assert width >= 600 and height >= 300 and colours >= 8, (width, height, colours)
-    browser.run("const { viewer } = window.gaknifur.ask; viewer.showLife(); viewer.drawNow()")
-    browser.click("save-seen-csv")
-    rows = list(csv.DictReader(io.StringIO(browser.run_later(TEXT, "image.seen.csv"))))
-    assert {row["life"] for row in rows} == {"3"}, rows
-    if isinstance(browser, Chromium):
-        said = browser.complaints()
-        assert not said, said
-    return 10
-
-
-CHECKS = {"steps": (steps, 4), "in_utc": (in_utc, 5), "columns": (columns_hold, 500), "moves": (moves, 14), "filters": (filters, 10)}
+CHECKS = {"steps": (steps, 4), "columns": (columns_hold, 500), "moves": (moves, 14)}

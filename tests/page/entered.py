@@ -2,13 +2,11 @@
 import csv
 import io
 import json
-import os
 from pathlib import Path
 from typing import Any
 
 from asking import SECTOR, example, image, lab
-from browsing import Browser, threads_s
-from chromium import Chromium
+from browsing import Browser
 from desks import TELEGRAMS
 from handing import CATCH, TEXT
 
@@ -18,46 +16,31 @@ for (const file of arguments[0]) data.items.add(file instanceof File ? file : wi
 document.dispatchEvent(new DragEvent('drop', {dataTransfer: data, bubbles: true, cancelable: true}));
 """
 NAMED = "window.held = arguments[0].map(name => new File([Uint8Array.from(window.bytes)], name)); window.before = window.gaknifur.ask.id"
-READ = "const a = window.gaknifur.ask; return a.isDone && a.images.length === 1"
 TYPE = "const field = document.getElementById(arguments[0]); field.value = arguments[1]; field.dispatchEvent(new Event(arguments[2]))"
 INVALID = "return document.getElementById(arguments[0]).getAttribute('aria-invalid')"
 PRESS = "document.activeElement.dispatchEvent(new KeyboardEvent('keydown', {key: arguments[0], bubbles: true, cancelable: true})); const a = document.activeElement;" \
         "return [a.id || a.getAttribute('aria-label'), document.getElementById('slot-said').textContent]"
-SOON_S = 8
-"""How long a processor may work on a long text."""
-
-
-def worked_s() -> float:
-    """How long the browser has worked."""
-    return sum(threads_s(os.getpid()).values())
-
 
 def dropped(browser: Browser, _page: Path, folder: Path) -> int:
-    """A folder, and a file that can't be read, are named, and the image next to them is read."""
+    """A folder, a file that is gone, and several files are refused by a sentence; then the image is read."""
     good, gone, inner = folder / "good", folder / "gone", folder / "inner"
     good.write_bytes(image(folder, [example("trip")], 16))
-    gone.write_bytes(good.read_bytes()[:-SECTOR])
+    gone.write_bytes(good.read_bytes())
     inner.mkdir()
-    browser.hand(gone)
-    browser.until("return document.getElementById('ask-error').textContent !== ''")
-    browser.run("window.held = [...document.getElementById('file').files]; for (const one of document.querySelectorAll('#images .remove')) one.click()")
+    browser.ask(gone)
+    browser.run("window.held = [...document.getElementById('file').files]")
     gone.unlink()
-    browser.hand(good)
-    browser.until(READ)
-    browser.run("window.held.push(...document.getElementById('file').files); for (const one of document.querySelectorAll('#images .remove')) one.click()")
     browser.run(DROP, [0])
-    browser.until("return document.getElementById('ask-error').textContent.includes('gone: the browser can\\'t read it')")
+    browser.until("return document.getElementById('ask-error').textContent.startsWith('gone: the browser can\\'t read it')")
+    browser.ask(good)
+    browser.run("window.held.push(...document.getElementById('file').files)")
     browser.run(DROP, [0, 1])
-    browser.until(READ)
-    assert "gone: the browser can't read it" in browser.text("ask-error") and "good" in browser.text("images")
-    if isinstance(browser, Chromium):
-        browser.run("for (const one of document.querySelectorAll('#images .remove')) one.click()")
-        for files in ([inner], [inner, good]):
-            data = {"items": [], "files": [str(file) for file in files], "dragOperationsMask": 1}
-            for kind in ("dragEnter", "dragOver", "drop"):
-                browser.driver.execute_cdp_cmd("Input.dispatchDragEvent", {"type": kind, "x": 300, "y": 300, "data": data})
-            browser.until("return document.getElementById('ask-error').textContent.includes('inner: the browser can\\'t read it; perhaps it is a folder')")
-        browser.until(READ)
+    browser.until("return document.getElementById('ask-error').textContent.startsWith('2 files were handed over, and none is read')")
+    data = {"items": [], "files": [str(inner)], "dragOperationsMask": 1}
+    for kind in ("dragEnter", "dragOver", "drop"):
+        browser.driver.execute_cdp_cmd("Input.dispatchDragEvent", {"type": kind, "x": 300, "y": 300, "data": data})
+    browser.until("return document.getElementById('ask-error').textContent.includes('inner: the browser can\\'t read it; perhaps it is a folder')")
+    assert browser.text("event-said").startswith("Event ") and browser.ask(good)["count"] == 17 and browser.text("ask-error") == ""
     said = [browser.text("sentence"), *(line for line in browser.complaints() if "Uncaught" in line)]
     assert said == [""], said
     return 4
@@ -102,44 +85,41 @@ def names(browser: Browser, _page: Path, folder: Path) -> int:
     data = image(folder, [example("trip")], 16)
     browser.run("document.getElementById('tab-ask').click(); window.bytes = arguments[0]", list(data))
     for name, says in (("a\u202egnp.exe", "a\\u202egnp.exe"), ("\u200b\u200b", "\\u200b\\u200b")):
-        browser.run("for (const one of document.querySelectorAll('#images .remove')) one.click()")
         browser.run(NAMED, [name])
         browser.run(DROP, [0])
-        browser.until(READ)
+        browser.until("return window.gaknifur.ask.id > window.before && window.gaknifur.ask.isDone")
         browser.run(CATCH)
         browser.click("save-report")
         browser.until("return Object.keys(window.saved).length === 1")
         report = browser.run_later(TEXT, browser.run("return Object.keys(window.saved)[0]"))
+        facts = browser.text("facts")
         browser.run("window.bytes = window.bytes.slice(0, 100)")
         browser.run(NAMED, [name])
         browser.run(DROP, [0])
         browser.until("return document.getElementById('ask-error').textContent !== ''")
-        for text in (browser.text("images"), browser.text("facts"), browser.text("ask-error"), report):
+        for text in (facts, browser.text("ask-error"), report):
             assert says in text and name not in text, (says, text[:200])
         browser.run("window.bytes = arguments[0]", list(data))
     return 8
 
 
 def long_texts(browser: Browser, _page: Path, folder: Path) -> int:
-    """A text of 100,000 digits, or of as many other characters, and a scenario of 50,000 groups freeze nothing."""
+    """A text of 100,000 digits, or of as many other characters, has a short answer and no form; a scenario of 50,000 groups is driven."""
     browser.click("tab-telegram")
     for name, text, says in (("telegram-hex", "90" * 50_000, "9 TooLong"), ("telegram-hex", "9" * 99_999, "is no variable"), ("telegram-words", "x" * 100_000, "is no variable"),
                              ("telegram-words", "NID_BG 1; " + "12: V_MAIN 24, L_ENDSECTION 300; " * 3_000, "")):
-        begun = worked_s()
         browser.run(TYPE, name, text, "input")
-        said, took = browser.text("telegram-said"), worked_s() - begun
-        assert says in said and len(said) < 300 and took < SOON_S, (name, said[:300], took)
+        said = browser.text("telegram-said")
+        assert says in said and len(said) < 300, (name, said[:300])
         assert browser.run("return document.querySelectorAll('#telegram-form input').length") == 0
     path = folder / "many.json"
     groups = [{"at": 100 * (n + 1), "spacing": 300, "balises": [TELEGRAMS[0]]} for n in range(50_000)]
     path.write_text(json.dumps({"groups": groups, "steps": []}), encoding="utf-8")
-    begun = worked_s()
-    browser.run("document.getElementById('tab-drive').click()")
-    browser.send("scenario-file", str(path))
-    browser.until("return window.gaknifur.drive.track.name.includes('many.json') && window.gaknifur.drive.course !== null", 120)
+    browser.click("tab-drive")
+    browser.send("scenario-file", path)
+    browser.until("return window.gaknifur.drive.track.name.includes('many.json') && window.gaknifur.drive.course !== null")
     browser.run("for (let n = 0; n < 20; n++) window.gaknifur.drive.step(); window.gaknifur.drive.render(true)")
-    took = worked_s() - begun
-    assert browser.text("drive-error") == "" and took < SOON_S, (browser.text("drive-error"), took)
+    assert browser.text("drive-error") == "" and browser.run("return window.gaknifur.drive.course.balises.length") == 50_000, browser.text("drive-error")
     return 5
 
 
@@ -207,7 +187,7 @@ def keyed(browser: Browser, _page: Path, folder: Path) -> int:
     assert found == ["tab-telegram", "tab-drive", "tab-telegram", "tab-drive", "tab-telegram"], found
     assert browser.run("return document.getElementById('telegram').checkVisibility()")
     browser.click("tab-drive", "ask-this")
-    assert browser.run("return document.activeElement.id") == "tab-ask"
+    browser.until("return window.gaknifur.ask.isDone && document.activeElement.id === 'brief-title'")
     return 15
 
 
@@ -220,7 +200,7 @@ def shown(browser: Browser, _page: Path, folder: Path) -> int:
     browser.ask(path)
     assert any(text.startswith("lives run again") for text in browser.run("return window.said")), browser.run("return window.said")
     assert browser.run("return document.getElementById('verdict').className") == "verdict good"
-    spans = browser.run("const [{ axis }] = window.gaknifur.ask.viewer.layers; return [axis.kind, axis.spans.map(one => [one.low, one.high])]")
+    spans = browser.run("const { axis } = window.gaknifur.ask.viewer.scene; return [axis.kind, axis.spans.map(one => [one.low, one.high])]")
     assert spans[0] == "event" and len(spans[1]) == 3 and all(low < high for low, high in spans[1]), spans
     data[SECTOR * (3 + 6 * 2) + 7] ^= 1  # (an indication of the first record of block 2)
     path.write_bytes(data)

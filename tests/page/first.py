@@ -4,7 +4,6 @@ from pathlib import Path
 
 from asking import STATES, example, image, lab
 from browsing import Browser
-from chromium import Chromium
 from desks import board, name_of
 
 GREY = "return arguments[0].map(id => { const one = document.getElementById(id); return [one.getAttribute('aria-disabled') === 'true', one.title]; })"
@@ -25,8 +24,7 @@ WRONG = (("length", "abc", "enter-train", "Length in m: a number with up to 2 de
 
 def steps(browser: Browser, _page: Path, _folder: Path) -> int:
     """The page says what it is; four steps by one button; what has no effect is grey, with why; why it brakes is above the fold at 1366 x 768."""
-    if isinstance(browser, Chromium):
-        browser.driver.execute_cdp_cmd("Emulation.setDeviceMetricsOverride", {"width": 1366, "height": 768, "deviceScaleFactor": 1, "mobile": False})
+    browser.show(1366, 768)
     assert browser.text("about").startswith("Drop a journal image anywhere on this page, and it says why the train braked. Or drive a train here")
     board(browser, name_of(browser, "full_supervision"))
     grey = browser.run(GREY, ["full", "start", "leave", "confirm-1", "override"])
@@ -46,11 +44,10 @@ def steps(browser: Browser, _page: Path, _folder: Path) -> int:
     browser.run("const d = window.gaknifur.drive; for (let n = 0; n < 2000 && d.course.output.brake < 2; n++) d.step(); d.render(true); scrollTo(0, 0)")
     browser.until("return document.getElementById('limit-cause').textContent.includes('end of authority')")
     bottoms = browser.run("return [...document.querySelectorAll('#causes li, #limit-cause')].map(one => one.getBoundingClientRect().bottom)")
-    assert len(bottoms) >= 3 and (not isinstance(browser, Chromium) or max(bottoms) <= 768), bottoms
+    assert len(bottoms) >= 3 and max(bottoms) <= 768, bottoms
     browser.click("cut", "cut-now")
     assert browser.run(GREY, ["full", "start"]) == [[True, "Power is off"], [True, "Power is off; key s"]]
-    if isinstance(browser, Chromium):
-        browser.driver.execute_cdp_cmd("Emulation.clearDeviceMetricsOverride", {})
+    browser.show()
     return 12
 
 
@@ -119,11 +116,11 @@ def own_words(browser: Browser, _page: Path, folder: Path) -> int:
     """A file that is no scenario is refused in words of the page's own."""
     scenario = json.dumps(example("trip"))
     for data, says in ((b"\xff\xfe{}", "it isn't text in UTF-8."), (b'{"groups":\n [], }', "this is no JSON"), (scenario[:-1].encode(), "this is no JSON"), (b"", "this is no JSON"),
-                       (b"[" * 5_000 + b"]" * 5_000, "its lists and objects are nested too deeply" if isinstance(browser, Chromium) else "")):
+                       (b"[" * 5_000 + b"]" * 5_000, "its lists and objects are nested too deeply")):
         path = folder / "bad.json"
         path.write_bytes(data)
         browser.run("document.getElementById('drive-error').textContent = ''")
-        browser.send("scenario-file", str(path))
+        browser.send("scenario-file", path)
         browser.until("return document.getElementById('drive-error').textContent !== ''")
         error = browser.text("drive-error")
         assert error.startswith(f"bad.json isn't a scenario that etcs run reads: {says}"), error

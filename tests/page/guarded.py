@@ -7,7 +7,7 @@ from typing import Any
 from browsing import Browser
 from desks import START, TELEGRAMS, image_of, saved
 from gaknifur.testing.telegrams import telegram
-from own import open_scenario
+from tracks import open_scenario
 
 STOP = "137: Q_DIR {}, Q_SRSTOP 0"
 REVERSE, NOMINAL, BOTH = 0, 1, 2

@@ -44,41 +44,4 @@ def handed_on(browser: Browser, _page: Path, folder: Path) -> int:
     return 4 * len(wanted)
 
 
-def noted(browser: Browser, page: Path, folder: Path) -> int:
-    """Notes are kept by the digest of the image, and saved with it; another image has none of them, and damaged storage none at all."""
-    one, other = folder / "one", folder / "other"
-    one.write_bytes(image(folder, [example("trip")], 16))
-    other.write_bytes(image(folder, [example("on_sight")], 16))
-    texts = {5: "The driver says <b>that</b> he braked.", 11: "See the tape, 10:02"}
-    browser.ask(one)
-    for event, text in texts.items():
-        browser.run("window.gaknifur.ask.chooseEvent(arguments[0])", event)
-        browser.send("note", text)
-    listed = [f"event {event}: {text}" for event, text in texts.items()]
-    show = "window.gaknifur.ask.viewer.drawNow(); return [[...document.querySelectorAll('#notes li')].map(one => one.textContent)," \
-           "document.querySelector('#viewer-chart .note-flags')?.getAttribute('d').split('M').length ?? 0]"
-    assert browser.run(show) == [listed, 3], browser.run(show)
-    browser.ask(other)
-    assert browser.run(show) == [["There are no notes."], 0]
-    browser.open(page)
-    browser.ask(one)
-    browser.run("window.gaknifur.ask.chooseEvent(11)")
-    assert browser.run(show) == [listed, 3] and browser.run("return document.getElementById('note').value") == texts[11]
-    browser.run(CATCH)
-    browser.click("save-json", "save-report", "save-seen-json")
-    notes = [{"event": event, "text": text} for event, text in texts.items()]
-    for kind in ("one.json", "one.seen.json"):
-        saved = json.loads(browser.run_later(TEXT, kind))
-        assert saved.get("images", [saved])[0]["notes"] == notes, kind
-    report = browser.run_later(TEXT, "one.html")
-    assert "The driver says &lt;b&gt;that&lt;/b&gt; he braked." in report and "<textarea" not in report and "<select" not in report
-    browser.run("window.gaknifur.ask.chooseEvent(5); const note = document.getElementById('note'); note.value = ' '; note.dispatchEvent(new Event('input'))")
-    assert browser.run(show)[0] == listed[1:]
-    for stored in ("{", "[1]", '{"x": "y", "7": 8}', "null"):
-        browser.run("localStorage.setItem('gaknifur notes ' + arguments[0], arguments[1])", hashlib.sha256(one.read_bytes()).hexdigest(), stored)
-        browser.ask(one)
-        assert browser.run(show) == [["There are no notes."], 0], stored
-    return 13
-
-
-CHECKS = {"handed_on": (handed_on, 40), "noted": (noted, 13)}
+CHECKS = {"handed_on": (handed_on, 40)}

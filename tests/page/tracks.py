@@ -1,4 +1,4 @@
-"""The user's own data: scenarios that are opened, and a drive as a test case."""
+"""Tracks of one's own: scenarios that are opened, and a track that is edited; and what was driven as a test case."""
 import json
 import os
 import random
@@ -7,15 +7,13 @@ import subprocess
 from pathlib import Path
 from typing import Any
 
-import yaml
 from browsing import Browser
-from chromium import Chromium
-from selenium.webdriver.common.action_chains import ActionChains
-from desks import EXAMPLES, START, TELEGRAMS, TOP, board, image_of, name_of, random_steps, saved
+from desks import EXAMPLES, START, TELEGRAMS, TOP, board, etcs, image_of, name_of, random_groups, random_steps, saved
 from gaknifur import program
 from gaknifur.testing import cases, telegrams
+from selenium.webdriver.common.action_chains import ActionChains
 
-OPENED, FAULTY, CHANGED_TEXTS, NEAR = 12, 160, 600, 68
+OPENED, FAULTY, NEAR = 12, 160, 68
 GOOD: dict[str, Any] = {
     "cold": 1, "groups": [{"at": 5000, "spacing": 300, "balises": [TELEGRAMS[1], TELEGRAMS[3]]}],
     "steps": [{"driver": [1, "IC 704"]}, {"driver": [2, 704]}, {"driver": [3, 20000, 160000, 70, 0, 15]}, {"driver": [4, 1]}, {"driver": [5, 1]},
@@ -38,7 +36,7 @@ BOUNDS: list[tuple[list[Any], list[int]]] = [
 def open_scenario(browser: Browser, path: Path) -> None:
     """Opens a scenario, as a user does."""
     before = browser.run("document.getElementById('tab-drive').click(); return document.getElementById('track').value")
-    browser.send("scenario-file", str(path))
+    browser.send("scenario-file", path)
     browser.until(f"return document.getElementById('drive-error').textContent !== '' || document.getElementById('track').value !== '{before}'")
 
 
@@ -46,9 +44,7 @@ def opened(browser: Browser, _page: Path, folder: Path) -> int:
     """Scenarios with groups, opened and played by the button, leave the image of `etcs run`, and so does what is saved of them."""
     dice = random.Random(681)
     for number in range(OPENED):
-        groups = [{"at": dice.randrange(1, 300) * 100, "spacing": dice.randrange(1, 13) * 100,
-                   "balises": [dice.choice(TELEGRAMS) for _ in range(dice.randrange(1, 4))]} for _ in range(dice.randrange(4))]
-        scenario = {"groups": groups, "steps": random_steps(dice) + random_steps(dice)[5:8]} | ({"cold": dice.randrange(3)} if dice.random() < 0.6 else {})
+        scenario = {"groups": random_groups(dice, dice.randrange(4)), "steps": random_steps(dice) + random_steps(dice)[5:8]} | ({"cold": dice.randrange(3)} if dice.random() < 0.6 else {})
         moment = 0
         for step in scenario["steps"]:
             if "clock" in step:
@@ -113,12 +109,12 @@ def refuses(browser: Browser, text: str) -> str:
 
 def faulty(browser: Browser, _page: Path, folder: Path) -> int:
     """Scenarios in which something is altered: the page refuses those that `etcs run` refuses, and no others."""
-    dice, refused = random.Random(682), 0
+    dice, refused, path, image = random.Random(682), 0, folder / "scenario.json", folder / "image"
+    etcs("format", str(image), "16")
+    empty = image.read_bytes()
     for number in range(FAULTY):
-        path, image = folder / "scenario.json", folder / "image"
         path.write_text(altered(dice) if number else json.dumps(GOOD), encoding="utf-8")
-        image.unlink(missing_ok=True)
-        assert program.etcs("format", str(image), "16")[0] == 0
+        image.write_bytes(empty)
         _, lines = program.etcs("run", str(path), str(image))
         wanted = any(line.startswith("refused") for line in lines)
         said = refuses(browser, path.read_text(encoding="utf-8"))
@@ -135,91 +131,7 @@ def faulty(browser: Browser, _page: Path, folder: Path) -> int:
     return FAULTY + len(limits)
 
 
-def texts() -> list[str]:
-    """The telegrams of the corpus that are written by their variables."""
-    found: list[str] = []
-
-    def walk(value: Any) -> None:
-        if isinstance(value, str) and "NID_BG" in value:
-            found.append(value)
-        for one in value.values() if isinstance(value, dict) else value if isinstance(value, list) else ():
-            walk(one)
-    for path in sorted([*(TOP / "suites").glob("*.yaml"), *(TOP / "page/tracks").glob("*.yaml")]):
-        for document in yaml.safe_load_all(path.read_text(encoding="utf-8")):
-            walk(document)
-    return sorted(set(found))
-
-
-def changed(text: str, dice: random.Random) -> str:
-    """A telegram in which a number or a variable is another one, is gone, or is more."""
-    parts = re.split("([,;:])", text)
-    at = dice.randrange(0, len(parts), 2)
-    kind = dice.randrange(5)
-    if kind == 0:
-        parts[at] = re.sub(r"\d+$", str(dice.choice((0, 1, 2, 3, 15, 127, 255, 32767, 10**6))), parts[at])
-    elif kind == 1:
-        parts[at] = dice.choice(("", " X 1", " N_ITER 1", " N_ITER 0", " L_PACKET 50", " Q_SCALE 2", " 44", " Q_DIR 1", " NID_C", " D_DP 50"))
-    elif kind == 2:
-        del parts[at:at + 2]
-    else:
-        parts[at:at] = [dice.choice((" Q_SCALE 0", " N_ITER 2", " Q_FRONT 1", " 66: NID_TSR 1", " 44: ", " T_LOA 60", " V_LOA 3")), dice.choice(",;")]
-    return "".join(parts)
-
-
-DECODE = """
-const { telegrams } = window.gaknifur.parts, decoded = telegrams.read(arguments[0]);
-let text = telegrams.text(decoded), again = '';
-try { again = telegrams.digits(telegrams.parsed(text)); } catch (error) { again = error.message; }
-return [decoded.header, decoded.packets, again];
-"""
-ENCODE = """
-const { telegrams } = window.gaknifur.parts;
-return arguments[0].map(text => { try { return telegrams.digits(telegrams.parsed(text)); } catch (error) { return '!' + error.constructor.name; } });
-"""
-
-
-def by_package(text: str) -> str:
-    """The digits of a telegram, by the package."""
-    try:
-        return telegrams.telegram(text).digits
-    except telegrams.Wrong:
-        return "!Wrong"
-
-
-def front_of(digits: str, count: int) -> str:
-    """The first bits of some digits."""
-    return f"{int(digits, 16):0{4 * len(digits)}b}"[:count]
-
-
-def variables(browser: Browser, _page: Path, _folder: Path) -> int:
-    """Telegrams by their variables come to the bits that the package writes, or are refused by both; of bits the fields are those of `etcs decode`."""
-    dice, corpus = random.Random(683), texts()
-    tried = corpus + [changed(dice.choice(corpus), dice) for _ in range(CHANGED_TEXTS)]
-    found = browser.run(ENCODE, tried)
-    wanted = [by_package(text) for text in tried]
-    wrong = [(text, one, other) for text, one, other in zip(tried, found, wanted) if not (one == other or one[0] == other[0] == "!")]
-    assert not wrong and len(corpus) > 100, (len(corpus), wrong[:3])
-    refused, known = sum(one[0] == "!" for one in wanted), 0
-    for digits in sorted({one for one in wanted if one[0] != "!"})[::2]:
-        lines = program.decode(digits)
-        if lines[0].startswith("refused"):
-            continue
-        header, packets, again = browser.run(DECODE, digits)
-        shown = [" ".join(["telegram", *(f"{name}={number}" for name, number in header)])]
-        for packet in packets:
-            number, is_known = packet[0][1], packet[0][1] in telegrams.LAYOUTS
-            shown.append(" ".join([f"packet {number}", *(f"{name}={value}" for name, value in packet[1:None if is_known else 3]), *([] if is_known else ["skipped"])]))
-        assert shown == lines[:-1], (digits, shown, lines)
-        # (what comes after the end mark is no part of the telegram)
-        end = int(lines[-1].split()[1])
-        is_same = again == digits if 4 * len(digits) - end < 8 else front_of(again, end) == front_of(digits, end)
-        assert is_same or any("skipped" in line for line in lines), (digits, again)
-        known += 1
-    assert refused > 100 and known > 100, (refused, known)
-    return len(tried) + known
-
-
-def edited(browser: Chromium, _page: Path, folder: Path) -> int:
+def edited(browser: Browser, _page: Path, folder: Path) -> int:
     """A track is edited by mouse, keys and text, and driven: the train hears the telegram there, and the image is that of `etcs run`."""
     browser.run("window.gaknifur.drive.board(0)")
     browser.click("edit", "add-group")
@@ -272,7 +184,7 @@ def as_cases(browser: Browser, _page: Path, folder: Path) -> int:
     browser.click("save-case")
     suite, count = folder / "suite", 0
     suite.mkdir()
-    for number, example in enumerate(EXAMPLES[:3]):
+    for number, example in enumerate(EXAMPLES[:2]):
         board(browser, name_of(browser, example))
         browser.click(*START, "full")
         browser.run("for (let n = 0; n < 40; n++) document.getElementById('one-step').click()")
@@ -286,7 +198,7 @@ def as_cases(browser: Browser, _page: Path, folder: Path) -> int:
         assert built == [{"cold": life.get("cold", 0), "steps": life["steps"]} for life in saved(browser)], number
         count += text.count("- {note:")
     status, said = lab_test(suite)
-    assert status == 0 and f"{count + 3} passed" in said, (count, said)
+    assert status == 0 and f"{count + 2} passed" in said, (count, said)
     first = suite / "driven_0.case.yaml"
     text = first.read_text(encoding="utf-8")
     first.write_text(re.sub(r"limit_m_per_h: (\d+), indications: \[\]", lambda found: f"limit_m_per_h: {int(found[1]) + 1}, indications: []", text, count=1), encoding="utf-8")
@@ -299,4 +211,4 @@ def as_cases(browser: Browser, _page: Path, folder: Path) -> int:
     return count
 
 
-CHECKS = {"opened": (opened, OPENED), "faulty": (faulty, FAULTY + NEAR), "variables": (variables, CHANGED_TEXTS + 100), "edited": (edited, 14), "as_cases": (as_cases, 15)}
+CHECKS = {"opened": (opened, OPENED), "faulty": (faulty, FAULTY + NEAR), "edited": (edited, 14), "as_cases": (as_cases, 10)}

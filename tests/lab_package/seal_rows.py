@@ -269,6 +269,14 @@ def forged():
                        ("why.jsonl", b""), ("digests.csv", b"\0"), ("digests.csv", b"\xff")):
         yield f"{name} is {text[:20]!r}", [lambda folder, name=name, text=text: (folder / "data" / name).write_bytes(text), strip], f"data/{name}"
 
+    for name in ("table.csv", "report.html", "journal.db"):
+        def calm(folder, name=name):
+            data = (folder / "data" / name).read_bytes()
+            (folder / "data" / name).write_bytes(data.replace(b"emergency", b"none     "))
+        yield f"no emergency in {name}", [calm, strip], f"data/{name}"
+        yield f"no {name}", [lambda folder, name=name: (folder / "data" / name).unlink(), strip], f"data/{name}"
+    yield "no image", [lambda folder: (folder / "data/image").unlink(), strip], "data/image"
+
     def more(folder):
         (folder / "data/run.sh").write_text("more")
     yield "a file more, that manifests have", [more, strip], "data/run.sh"
@@ -406,11 +414,11 @@ def whole_bag(count, room, image):
         count.same(f"{name}-{kind}.txt", len(lines), len(PAYLOAD) if name == "manifest" else 5)
     is_proved = int(program.reader_is_proved() is True)
     seen = seal.verify(room / "bag", trust(room))
-    count.same("the bag", (seen.faults, len(seen.shown), len(seen.not_shown)), ([], 7 + is_proved, 2 - is_proved))
+    count.same("the bag", (seen.faults, len(seen.shown), len(seen.not_shown)), ([], 10 + is_proved, 2 - is_proved))
     by = [line for line in seen.shown + seen.not_shown if f"sealed by lab {program.version()}" in line]
     count.same("by which tools", [(program.PROOF[None] in line, "with a proved etcs_lab" in line) for line in by], [(not is_proved, bool(is_proved))])
     seen = seal.verify(room / "bag", Trust())
-    count.same("the bag, with no trusted signer", (seen.faults, len(seen.shown), len(seen.not_shown)), ([], 4 + is_proved, 5 - is_proved))
+    count.same("the bag, with no trusted signer", (seen.faults, len(seen.shown), len(seen.not_shown)), ([], 7 + is_proved, 5 - is_proved))
     seen = seal.verify(room / "bag", trust(room, "other"))
     count.same("the bag, where others are trusted", sorted(line.split(":")[0] for line in seen.faults + seen.unsigned),
                sorted([*LATER, UNSIGNED]))

@@ -11,8 +11,11 @@ import io
 import json
 import os
 import platform
+import sqlite3
+import tempfile
 from collections.abc import Iterable, Iterator
 from dataclasses import dataclass, field
+from importlib import metadata
 from pathlib import Path
 from typing import BinaryIO
 
@@ -31,12 +34,14 @@ IDENTITY = IMAGE + identity.ENDING
 WORDS = {"examine.json": ["examine", "--json"], "events.jsonl": ["events", "--all"], "replay.jsonl": ["replay", "--json"],
          "why.jsonl": ["why", "--json"]}
 """The files with the output of `etcs_lab` about the image, and its arguments."""
-FILES = (IMAGE, IDENTITY, TIMES, SEAL, PARTS, *WORDS, "table.csv", "journal.db", "report.html")
+DRAWN = ("table.csv", "journal.db", "report.html")
+"""The files that this package makes of the image."""
+FILES = (IMAGE, IDENTITY, TIMES, SEAL, PARTS, *WORDS, *DRAWN)
 """The files that the payload of a bag may have."""
 BAG = (*(f"{bag.PAYLOAD}/{name}" for name in FILES), bag.DECLARATION, bag.INFO, *map(bag.MANIFEST.format, bag.ALGORITHMS),
        *map(bag.TAG_MANIFEST.format, bag.ALGORITHMS), signing.REQUEST, *signing.LOOSE)
 """All files that a bag may have."""
-VERSION = 1
+VERSION = 2
 """The version of `seal.json`."""
 NO_IMAGE = Verdict(["is not a formatted image, so it has no table, database and report"])
 RECORD_BYTES = {1: 128, 2: 256, 3: 256}
@@ -137,8 +142,8 @@ def parts_text(data: Path) -> str:
     return out.getvalue()
 
 
-def draw(data: Path, name: str, drift_ppm: int, progress: Progress) -> Verdict:
-    """Makes table, database and report of a bag's image, under the image's original name; returns its verdict."""
+def draw(data: Path, out: Path, name: str, drift_ppm: int, progress: Progress) -> Verdict:
+    """Makes table, database and report of a bag's image in a folder, under the image's original name; returns its verdict."""
     times = data / TIMES
     journal = read(data / IMAGE, replay=True, why=True, progress=progress, strays=True, is_own=True)
     if times.is_file():
@@ -147,20 +152,25 @@ def draw(data: Path, name: str, drift_ppm: int, progress: Progress) -> Verdict:
     journal.path = Path(name)
     from ..journal import database, report, tables
     table = tables.frame(journal)
-    (data / "table.csv").write_text(tables.csv_text(table), encoding="utf-8")
-    connection = database.open_database(data / "journal.db")
+    (out / "table.csv").write_text(tables.csv_text(table), encoding="utf-8")
+    connection = database.open_database(out / "journal.db")
     try:
         database.add(connection, journal, table)
     finally:
         connection.close()
-    (data / "report.html").write_text(report.page(journal, progress=progress), encoding="utf-8")
+    (out / "report.html").write_text(report.page(journal, progress=progress), encoding="utf-8")
     return verdict.of(journal)
 
 
 def tools() -> Json:
     """The tools that made a bag, and whether they are proved; null if the environment named an `etcs_lab` that isn't the proved one."""
     return {"lab": program.version(), "lab_is_proved": False, "etcs_lab_sha256": bag.digests(Path(program.find()))["sha256"],
-            "etcs_lab_is_proved": program.reader_is_proved(), "python": platform.python_version()}
+            "etcs_lab_is_proved": program.reader_is_proved(), "python": platform.python_version(), "libraries": libraries()}
+
+
+def libraries() -> str:
+    """The libraries on which the bytes of table, database and report depend."""
+    return ", ".join([*(f"{name} {metadata.version(name)}" for name in ("jinja2", "matplotlib", "numpy", "pandas")), f"sqlite {sqlite3.sqlite_version}"])
 
 
 def info_of(seal: Json) -> list[tuple[str, str]]:
@@ -186,7 +196,7 @@ def seal(image: Path, folder: Path, how: Sealing, progress: Progress = silent) -
         name = shown(image.name)
         runs = write_outputs(data)
         is_image = runs["examine.json"]["status"] in (WHOLE, NOT_WHOLE)
-        judged = draw(data, name, how.drift_ppm, progress) if is_image else NO_IMAGE
+        judged = draw(data, data, name, how.drift_ppm, progress) if is_image else NO_IMAGE
         found = {"version": VERSION, "sealed_at": now(), "by": shown(how.by or who()), "medium": how.medium and shown(how.medium),
                  "image": {"name": name, "bytes": (data / IMAGE).stat().st_size, **digests}, "etcs_lab": runs, "tools": tools(),
                  "times": {"file": TIMES, "drift_ppm": how.drift_ppm} if how.times else None,
@@ -223,7 +233,7 @@ SCHEMA = formats.Members({
         name: formats.Members({"words": formats.OneOf((" ".join(words),)), "status": formats.OneOf((WHOLE, REFUSED, NOT_WHOLE)), "said": RAN})
         for name, words in WORDS.items()}),
     "tools": formats.Members({"lab": LINE, "lab_is_proved": formats.OneOf((False,)), "etcs_lab_sha256": formats.SHA256,
-                               "etcs_lab_is_proved": formats.OneOf((True, False, None)), "python": LINE}),
+                               "etcs_lab_is_proved": formats.OneOf((True, False, None)), "python": LINE, "libraries": LINE}),
     "times": formats.Maybe(formats.Members({"file": formats.OneOf((TIMES,)), "drift_ppm": formats.Number(1 << 40)})),
     "signed_by": formats.Many(formats.Members({"kind": formats.OneOf(tuple(signing.NAMES)), "key": FINGERPRINTS}), len(signing.NAMES))})
 """The schema of `seal.json`."""
@@ -306,10 +316,35 @@ def check_contents(data: Path, seal: Json, found: Verification) -> None:
                                "by, and prints something else")
 
 
+def check_drawn(data: Path, seal: Json, found: Verification) -> None:
+    """Makes table, database and report again. By the product that sealed the bag they have to be the same bytes."""
+    now, drift = tools(), seal["times"]["drift_ppm"] if seal["times"] else DRIFT_PPM
+    is_same = all(seal["tools"][name] == now[name] for name in ("lab", "etcs_lab_sha256", "python", "libraries"))
+    with tempfile.TemporaryDirectory(prefix="gaknifur-") as room:
+        if is_formatted(seal):
+            draw(data, Path(room), seal["image"]["name"], drift, silent)
+        for name in DRAWN:
+            made, is_there = Path(room, name), formats.is_there(data / name)
+            if not made.exists() and not is_there:
+                continue
+            size = made.stat().st_size if made.exists() else 0
+            if is_there and made.exists() and (data / name).lstat().st_size == size and \
+                    formats.digests(data / name, ["sha512"], size)["sha512"] == bag.digests(made)["sha512"]:
+                found.shown.append(f"{name} is what this product makes of the image")
+            elif is_same:
+                found.faults.append(f"{bag.PAYLOAD}/{name}: {'is not what the product that sealed it makes of the image' if is_there else 'is missing'}")
+            else:
+                found.not_shown.append(f"that {name} comes from the image: this product or its libraries are others than it was sealed by, and make another file")
+
+
+def is_formatted(seal: Json) -> bool:
+    """Whether the image of a bag has a table, a database and a report."""
+    return seal["etcs_lab"]["examine.json"]["status"] in (WHOLE, NOT_WHOLE)
+
+
 def judge(data: Path, seal: Json) -> Verdict:
     """The verdict of a bag's image."""
-    is_image = seal["etcs_lab"]["examine.json"]["status"] in (WHOLE, NOT_WHOLE)
-    return verdict.of(read(data / IMAGE, replay=True, is_own=True)) if is_image else NO_IMAGE
+    return verdict.of(read(data / IMAGE, replay=True, is_own=True)) if is_formatted(seal) else NO_IMAGE
 
 
 def check_tools(seal: Json, found: Verification) -> None:
@@ -387,8 +422,12 @@ def look_inside(folder: Path, signatures: dict[str, signing.Signature], found: V
         return
     found.shown.append(f"each of {len(checked.plain)} files is as it was sealed, by SHA-256 and SHA-512")
     check_signed_by(seal, signatures, found)
+    if not formats.is_there(folder / bag.PAYLOAD / IMAGE):
+        found.faults.append(f"{bag.PAYLOAD}/{IMAGE}: is missing")
+        return
     try:
         check_contents(folder / bag.PAYLOAD, seal, found)
+        check_drawn(folder / bag.PAYLOAD, seal, found)
         found.image = judge(folder / bag.PAYLOAD, seal)
     except Unfit as unfit:
         found.faults.append(f"{bag.PAYLOAD}: a file changed while it was read: {unfit}")

@@ -3,7 +3,7 @@ import os
 import unittest
 
 from gaknifur.journal import layout, sizes, verdict
-from gaknifur.journal.reading import read
+from gaknifur.journal.reading import check_size, read
 from gaknifur.program import REFUSED, Failed
 
 from .samples import InFolder, journal, record
@@ -40,7 +40,7 @@ class Sizes(InFolder):
         self.assertEqual(verdict.faults(cut), [f"{lost}: the file ends early: by its first sector it has 16 slots, so 49,664 bytes, {AGAIN} "
                                                "The records are those of each readable slot"])
 
-    def test_a_file_that_is_longer_than_its_journal_is_not_read(self) -> None:
+    def test_a_file_that_is_longer_than_any_image_is_not_read(self) -> None:
         image = self.room / "image"
         image.write_bytes(layout.first_sector(16))
         os.truncate(image, 1 << 40)
@@ -48,6 +48,8 @@ class Sizes(InFolder):
             with self.assertRaisesRegex(Failed, f"image: {why}") as caught:
                 read(image, slots=slots)
             self.assertEqual(caught.exception.status, REFUSED)
+        os.truncate(image, OF_16 + 3_000)
+        check_size(image)
 
 
 if __name__ == "__main__":

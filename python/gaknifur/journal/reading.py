@@ -257,10 +257,10 @@ def with_slots(slots: int | None) -> list[str]:
 
 
 def check_size(path: Path, slots: int | None = None) -> None:
-    """Refuses a file that is longer than its journal, before anything reads all of it."""
+    """Refuses a file that is longer than any image, before anything reads all of it."""
     found = sizes.of_file(path)
-    if found and (has := slots or found[1]) and (why := sizes.wrong(found[0], has, slots is not None)) and found[0] > layout.slot_at(has):
-        raise Failed(f"{path}: {why}", REFUSED)
+    if found and found[0] > layout.slot_at(layout.MOST_SLOTS) and (has := slots or found[1]):
+        raise Failed(f"{path}: {sizes.wrong(found[0], has, slots is not None)}", REFUSED)
 
 
 def failed(run: Run, path: Path, slots: int | None = None) -> Failed:
@@ -377,7 +377,7 @@ def read_why(journal: Journal, progress: Progress) -> None:
 
 def read(path: str | Path, other_blocks: bool = False, replay: bool = False, why: bool = False,
          progress: Progress = silent, strays: bool = False, is_own: bool = False, part: Part | None = None, slots: int | None = None) -> Journal:
-    """The journal in a file. Fails if the image isn't formatted or is longer than its journal; reads everything readable of a damaged one. Causes
+    """The journal in a file. Fails if the image isn't formatted or is longer than any; reads everything readable of a damaged one. Causes
     are known only with a replay. If the file `is_own`, nothing else writes to it, so neither its size nor changes are checked. Of a `part` that has
     a record only that part is read, if the image is whole. With `slots` it is read as if its first sector said so."""
     path = Path(path)

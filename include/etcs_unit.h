@@ -908,7 +908,8 @@ static inline uint32_t etcs_status_classify(uint32_t status, uint32_t source) {
  * power-up reads the first sector, of each slot the gate, and the head where the gate is open, then the six sectors of the
  * newest block's slot, and the gate of the next one. Until then the unit isn't open. Returns OK, IS_OPEN, OTHER_ABI,
  * OUT_OF_RANGE (`cold`), OPEN_NO_MEMORY, or OPEN_NOT_FORMATTED where `sectors` is 0. After any answer but OK nothing has
- * changed. It takes memory for 16 sectors and some 9 kB of requests, whatever the medium's size. */
+ * changed. It takes all memory that the power-up needs: for the unit, for 16 sectors and for some 9 kB of requests, whatever
+ * the medium's size. */
 ETCS_MUST_USE
 static inline uint32_t etcs_unit_begin(etcs_unit *unit, uint64_t sectors, uint32_t cold) {
     return (unit != NULL) ? etcs_unit_begin_(unit, sectors, cold, ETCS_UNIT_ABI) : (uint32_t)ETCS_UNIT_NULL_POINTER;
@@ -1006,8 +1007,9 @@ static inline uint32_t etcs_unit_request(etcs_unit *unit, etcs_unit_request_info
 
 /** Hands in the bytes of a sector of the medium: ETCS_UNIT_SECTOR bytes. Call it where etcs_unit_request reported a READ,
  * with its sector. The power-up, or the flush, goes on with it. Returns OK, NOT_OPEN, or OUT_OF_RANGE where the medium has no
- * such sector or `size` is another one; then nothing has changed. A status of opening refuses the power-up: no unit is open,
- * nothing was written, and the medium is to be left as it is. A status of preparing refuses the flush. */
+ * such sector or `size` is another one; then nothing has changed. A status of opening, but never OPEN_NO_MEMORY, refuses the
+ * power-up: no unit is open, nothing was written, and the medium is to be left as it is. A status of preparing refuses the
+ * flush. */
 ETCS_MUST_USE
 static inline uint32_t etcs_unit_provide(etcs_unit *unit, uint64_t sector, const uint8_t *bytes, size_t size) {
     return ((unit != NULL) && (bytes != NULL)) ? etcs_unit_provide_(unit, sector, bytes, size) : (uint32_t)ETCS_UNIT_NULL_POINTER;

@@ -121,8 +121,20 @@ static void digest(uint64_t *to, const void *from, size_t len) {
         *to = (*to ^ ((const uint8_t *)from)[i]) * UINT64_C(0x100000001B3);
 }
 
+/* Powers up: it asks for memory only where it begins, before anything is read. */
+static uint32_t powers_up(uint32_t cold) {
+    etcs_unit_request_info next = {0, 0, 0};
+    uint8_t none = 0;
+    uint32_t status = etcs_unit_begin(&unit, on.len / ETCS_UNIT_SECTOR, cold);
+    const unsigned long begun = asked;
+    while (status == ETCS_UNIT_OK && etcs_unit_request(&unit, &next, &none, 0) == ETCS_UNIT_OK && next.kind == ETCS_REQUEST_READ)
+        status = etcs_unit_provide(&unit, next.sector, on.bytes + next.sector * ETCS_UNIT_SECTOR, ETCS_UNIT_SECTOR);
+    is("requests for memory of a power-up that began", asked - begun, 0);
+    return status;
+}
+
 static uint32_t tries(const char *line, int opens, uint32_t cold) {
-    return opens ? etcs_unit_open(&unit, on.bytes, on.len, cold) : take(&unit, line);
+    return opens ? powers_up(cold) : take(&unit, line);
 }
 
 /* Asks what a telegram would do. Where it is refused memory nothing is written. */

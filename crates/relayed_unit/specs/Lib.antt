@@ -1,4 +1,3 @@
-pub mod Absent
 pub mod Goings
 pub mod LifeNow
 pub mod Looks

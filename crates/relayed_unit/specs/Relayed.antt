@@ -11,7 +11,7 @@ use Rattle.mode_table.specs.declared.statuses.Cold.{Cold}
 use Rattle.request_disk.specs.Requests.{ends_in_sync}
 use Rattle.request_disk.specs.Requesting.{request_state, knows}
 use Rattle.onboard.specs.Answers.{flush_refusal, puts_block, refusal_of}
-use Rattle.onboard.specs.Flushes.{releases_in, without_disk, Flushes}
+use Rattle.onboard.specs.Flushes.{releases_in, Flushes}
 use Rattle.onboard.specs.Progress.{Progress, progress_of}
 use Rattle.onboard.specs.declared.errors.AcceptError.{AcceptError}
 use Rattle.unit_start.specs.PowersUp.{Continues}
@@ -62,13 +62,13 @@ AllDone u = requests_of u.moored ≤ u.done
 -- what was pending was flushed onto the disk, and these outputs of it are held back
 abbrev pub IsFlushed : List Release → Moored → Moored → Type 0
 IsFlushed outputs current next = (let answer : Result (ArrayVec Release) FlushError = Ok (record { items = outputs }) in
-    Flushes releases_in (request_state current.disk) (request_state next.disk) (without_disk current.unit) (without_disk next.unit) answer)
+    Flushes releases_in (request_state current.disk) (request_state next.disk) current.unit next.unit answer)
 
 -- ---- what a power-up leaves
 
 -- it goes on from that disk, which was ready for these lists
 abbrev pub Continued : ℕ → List Event → List Event → Cold → State → Moored → Type 0
-Continued whole_from durable accepted cold before current = (let answer : Result PartsState OpenError = Ok (without_disk current.unit) in
+Continued whole_from durable accepted cold before current = (let answer : Result PartsState OpenError = Ok current.unit in
     Continues whole_from durable accepted cold before (request_state current.disk) answer)
 
 -- ---- the gate that a flush has to know

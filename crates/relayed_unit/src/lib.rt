@@ -2,7 +2,6 @@
 //! the maker carries out, and its outputs are held back until he says that all are done. It powers up sector by sector.
 #![tactic(auto)]
 
-mod absent;
 mod errors;
 mod life_now;
 mod looking;
@@ -10,7 +9,6 @@ mod moored;
 mod powering_up;
 mod relayed;
 
-pub use absent::Absent;
 pub use errors::{PrepareError, ReleaseError};
 pub use life_now::LifeNow;
 pub use moored::Moored;

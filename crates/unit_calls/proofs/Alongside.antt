@@ -13,10 +13,9 @@ use Rattle.request_disk.specs.Requesting.{Requesting, request_state}
 use Rattle.onboard.specs.Answers.{flush_refusal}
 use Rattle.unit_start.specs.Events.{IsAhead}
 use Rattle.unit_start.specs.Releases.{Release}
-use Rattle.unit_start.specs.UnitState.{UnitState}
+use Rattle.unit_start.specs.UnitState.{PartsState}
 use Rattle.onboard.specs.declared.errors.AcceptError.{AcceptError}
 use Rattle.relayed_unit.specs.Relayed.{Relayed, refused_as, list_of, requests_of, release_refusal, wants_gate, IsLeftBy}
-use Rattle.relayed_unit.specs.declared.absent.Absent.{Absent}
 use Rattle.relayed_unit.specs.declared.errors.PrepareError.{PrepareError}
 use Rattle.relayed_unit.specs.declared.errors.PrepareError.TheVariants as a_prepare
 use Rattle.relayed_unit.specs.declared.errors.ReleaseError.{ReleaseError}
@@ -78,8 +77,8 @@ module _ {whole_from sectors : ℕ} {handed : List EtcsOutput} {medium : Platter
   still : (before after : Relayed) → after.moored.unit ≡ before.moored.unit → request_state after.moored.disk ≡ request_state before.moored.disk
       → after.outputs ≡ before.outputs → after.done ≤ carried → Floats whole_from sectors handed medium carried before → Floats whole_from sectors handed medium carried after
   still before after unit disk outputs said floats =
-      let Ahead : UnitState Absent → Type 0 = λ u. IsAhead floats.durable floats.accepted u.life in
-      stays floats after disk (ap (λ (u : UnitState Absent). u.journal) unit) outputs said floats.accepted (subst Ahead (sym unit) floats.ahead)
+      let Ahead : PartsState → Type 0 = λ u. IsAhead floats.durable floats.accepted u.life in
+      stays floats after disk (ap (λ (u : PartsState). u.journal) unit) outputs said floats.accepted (subst Ahead (sym unit) floats.ahead)
 
   pub takes_on : (input : Input) (before after : Relayed) (reported : Result ⊤ AcceptError) → Accepts input before after reported → Floats whole_from sectors handed medium carried before → Floats whole_from sectors handed medium carried after
   takes_on input before after (Err e) its floats = subst (λ (u : Relayed). Floats whole_from sectors handed medium carried u) (sym its.refused) floats
@@ -175,7 +174,7 @@ module _ {whole_from sectors : ℕ} {handed : List EtcsOutput} (handed' : List E
       let more : handed' ≡ handed ++ map description_of was.unit.outputs =
       so.0 ∙ ap (λ (l : List EtcsOutput). handed ++ l) (handed_out was.unit.outputs h.places h.handed h.count its.outputs its.counted) in
       let floats = releases under (not_above was.unit.done (requests_of was.unit.moored) owed) is.unit released.emptied.2 released.sectors released.stands
-      (ap (λ (u : UnitState Absent). u.life) released.unit) released.emptied.0 released.emptied.1 in
+      (ap (λ (u : PartsState). u.life) released.unit) released.emptied.0 released.emptied.1 in
       subst (λ (n : ℕ). Now handed' n is) (sym so.1) (subst (λ (l : List EtcsOutput). Now l 0 is) (sym more) floats)
 
   pub releases_on : Releases was is h → Now handed' carried' is

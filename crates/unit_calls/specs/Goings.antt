@@ -1,8 +1,7 @@
 -- What going on with a power-up leaves in its handle (this project's profile).
 use Rattle.std.specs.Prelude.{◌≡◌, ℕ, ◌<◌, ◌≤◌, List, Option, Some, None, Result, Ok, Err, IfOk, IfErr, false}
 use Rattle.disk.specs.State.{contents_of}
-use Rattle.onboard.specs.Flushes.{without_disk}
-use Rattle.unit_start.specs.Answers.{is_device}
+use Rattle.unit_start.specs.Answers.{is_device, wants_memory}
 use Rattle.unit_start.specs.PowersUp.{IsFresh, IsAnswerTo}
 use Rattle.unit_start.specs.Releases.{nothing_released}
 use Rattle.unit_start.specs.declared.errors.OpenError.{OpenError}
@@ -31,7 +30,7 @@ pub record IsGoneOn (before : Opening) (reported : Result Going OpenError) : Typ
   -- what was found of the slots is never given up
   pub further : IfOk reported (λ g. OnWants g (λ current. IsFurther before.scan current.scan))
   -- nothing is pending, there is no moment yet, and no flush failed
-  pub fresh_unit : IfOk reported (λ g. OnOpen g (λ u. IsFresh (without_disk u.moored.unit)))
+  pub fresh_unit : IfOk reported (λ g. OnOpen g (λ u. IsFresh u.moored.unit))
   -- a unit that came of it wants no sector
   pub wants_nothing : IfOk reported (λ g. OnOpen g (λ u. WantsNothing u.moored))
   -- the unit was powered up over a disk that holds what the medium held
@@ -39,6 +38,8 @@ pub record IsGoneOn (before : Opening) (reported : Result Going OpenError) : Typ
       IfOk reported (λ g. OnOpen g (IsUp (before_any medium before.disk.sectors) before.cold))
   -- no fault of the device comes of it
   pub no_device : IfErr reported (λ e. is_device e ≡ false)
+  -- it wants no memory
+  pub memory : IfErr reported (λ e. wants_memory e ≡ false)
   -- each refusal has its cause on the medium, and each cause its refusal
   pub answers : (medium : List ℕ) → IsGoing medium before →
       OnAnswer reported (IsAnswerTo before.disk.sectors (contents_of (medium_state medium before.disk.sectors)))

@@ -1,5 +1,5 @@
 //! Laws of the calls.
-ghost use Rattle.unit_calls.specs.Endings.{WantsFew};
+ghost use Rattle.unit_calls.specs.Endings.{WantsFew, WantsNoMemory};
 ghost use Rattle.unit_calls.specs.Formatting.{FormatEmpties};
 ghost use Rattle.unit_calls.specs.Histories.{HandedOutIsOnMedium, OnMediumIsHeld};
 
@@ -24,4 +24,9 @@ pub fn on_medium_is_held()
 /// first sector, two for each slot, and seven more at most, whatever the medium holds.
 pub fn power_up_ends()
     ensures { WantsFew }
+{}
+
+/// A law: memory for a power-up is wanted only by the call that begins it, before anything is read.
+pub fn only_begin_wants_memory()
+    ensures { WantsNoMemory }
 {}

@@ -47,7 +47,10 @@ pub use events_in::{
 pub use formatting::format_request_call;
 pub use handle::{Content, EtcsUnit, Opened};
 pub use inputs::EtcsTrainData;
-pub use laws::{format_empties, handed_out_is_on_medium, on_medium_is_held, power_up_ends};
+pub use laws::{
+    format_empties, handed_out_is_on_medium, on_medium_is_held, only_begin_wants_memory,
+    power_up_ends,
+};
 pub use opening::{unit_begin_call, unit_close_call};
 pub use outputs::{EtcsOutput, EtcsState};
 pub use preview::{EtcsGroup, EtcsPreview};

@@ -15,6 +15,7 @@ returns c =
         wants_nothing = e.wants_nothing;
         up = ups c.args.opening c.go_on-reported.result e.fresh e.sectors e.up;
         no_device = e.no_device;
+        memory = e.memory;
         answers = e.answers;
         none = e.none;
       },

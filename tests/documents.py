@@ -25,7 +25,7 @@ COMMANDS = {"start/c": 9, "start/code": 8, "start/investigate": 10, "start/tests
             "howto/coverage": 2, "howto/cpp": 2, "howto/damaged-image": 20, "howto/lint": 10,
             "howto/oracle": 7, "howto/play": 5, "howto/python": 1, "howto/replay": 11,
             "howto/report": 3, "howto/rust": 2, "howto/seal": 11, "howto/searching": 7,
-            "howto/sql": 15, "howto/tables": 6, "howto/telegrams": 5, "howto/time-of-day": 8,
+            "howto/sql": 15, "howto/tables": 6, "howto/telegrams": 5, "howto/time-of-day": 5,
             "howto/why-did-it-brake": 9, "howto/write-test-cases": 17}
 """How many commands a document has, at least."""
 COMMAND = re.compile(r"^(    |)\$ ((?:.*\\\n)*.*\n(?:\1> .*\n)*)((?:(?!\1\$ |```)\1.*\n)*)", re.MULTILINE)

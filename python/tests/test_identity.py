@@ -28,8 +28,8 @@ class Parsing(unittest.TestCase):
         self.assertEqual(Identity.parsed("unit: 1\x1b[2J").unit, "1\\x1b[2J")
 
 
-class Strangers(unittest.TestCase):
-    """Images of different units."""
+class Files(unittest.TestCase):
+    """Files next to images."""
 
     def setUp(self) -> None:
         folder = tempfile.TemporaryDirectory()
@@ -42,28 +42,11 @@ class Strangers(unittest.TestCase):
             (self.room / f"{name}.identity").write_text(text)
         return self.room / name
 
-    def test_who_is_a_stranger(self) -> None:
-        for one, other, is_one in ((TEXT, TEXT, False), (TEXT, "unit: 17", False), (TEXT, "unit: 18", True), (TEXT, "vehicle: 402 002", True),
-                                   (TEXT, "unit: 17\nsoftware: 2.4", False), ("", "unit: 1", False), ("vehicle: 1", "unit: 1", False)):
-            self.assertEqual(Identity.parsed(one).is_stranger(Identity.parsed(other)), is_one, (one, other))
-
-    def test_check(self) -> None:
-        a, b, c = self.image("a", "unit: 1"), self.image("b", None), self.image("c", "unit: 2")
-        identity.check(identity.known([a, b]), "Nothing was done.")
-        with self.assertRaises(Failed) as refused:
-            identity.check(identity.known([a, b, c]), "Nothing was done.")
-        self.assertEqual((str(refused.exception), refused.exception.status), (f"{c}: is of unit 2, and {a} of unit 1; --strangers goes on. Nothing was done.", 1))
-
     def test_keep(self) -> None:
-        a, c = self.image("a", TEXT), self.image("c", "unit: 2")
-        copy, none = self.image("copy", None), self.image("none", None)
-        identity.keep(none, copy)
+        copy = self.image("copy", None)
+        identity.keep(self.image("none", None), copy)
         self.assertIsNone(identity.of(copy))
-        for _ in range(2):
-            identity.keep(a, copy)
-            self.assertEqual((self.room / "copy.identity").read_text(), TEXT)
-        with self.assertRaises(Failed):
-            identity.keep(c, copy)
+        identity.keep(self.image("a", TEXT), copy)
         self.assertEqual((self.room / "copy.identity").read_text(), TEXT)
 
     def test_a_file_that_is_none(self) -> None:

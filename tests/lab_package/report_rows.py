@@ -258,12 +258,18 @@ def parts(rows):
     rows.same("parts that are read without the rest", count > 35, True)
     rows.page("trip", "--life", "1", "--to", "9", charts=1, text=["The examination and the replay are of all of it. Only this part was read", "life 1, events 0 to 9; at its end"])
     rows.page("byte", "--from", "9", "--to", "12", charts=1, said="lab: byte: something is lost, damaged or contradicts", text=["a part of it: from 9 to 12"])
-    (rows.room / "marked").write_bytes((rows.room / "trip").read_bytes())
-    marks = rows.room / "marked.times"
-    for mark, is_part in (("1,0,", True), (",,2", False)):
-        marks.write_text(f"life,moment_ms,event,utc,uncertainty_ms,source\n{mark},2026-03-01T10:00:00.000Z,50,GNSS\n")
-        page = rows.page("marked", "--from", "9", "--to", "12", charts=1, said=None)
-        rows.same(f"a mark at {mark}: only the part is read", "Only this part was read" in page, is_part)
+    begun = ("--utc", "1=2026-03-01T10:00:00Z")
+    rows.page("trip", *begun, "--from", "9", "--to", "12", charts=1, text=["Only this part was read", "2026-03-01 10:00:00.000 UTC"])
+    rows.same("the table has it", rows.lab("table", "trip", *begun).count(",2026-03-01T10:00:00.000Z"), 17)
+    rows.lab("database", *begun, "trip", "begun.db")
+    with contextlib.closing(sqlite3.connect("begun.db")) as connection:
+        rows.same("the database has it", connection.execute("SELECT utc_stated, count(*) FROM event GROUP BY 1").fetchall(), [("2026-03-01T10:00:00.000Z", 17)])
+    rows.lab("report", "trip", "none.html", "--utc", "7=2026-03-01T10:00:00Z", status=1,
+             said="lab: trip: no event of life 7 is here, which --utc names. Nothing of it was written.")
+    rows.lab("report", "trip", "none.html", *begun, *begun, status=2, said="lab: --utc names a life twice")
+    rows.lab("database", *begun, "trip", "byte", "begun.db", status=2, said="lab: --utc works with one image only; add each one by itself")
+    rows.lab("table", "trip", "--utc", "1=10:00", status=2,
+             said="lab table: error: invalid value for '--utc': has to be a life and a time with its zone, as 1=2026-03-01T10:00:00Z")
 
 
 def long(rows):

@@ -34,6 +34,20 @@ class Natural(click.ParamType):
         return number
 
 
+class Begun(click.ParamType):
+    """A life, and the time of day at its moment 0."""
+
+    name = "LIFE=TIME"
+
+    def convert(self, value: Any, parameter: click.Parameter | None, context: click.Context | None) -> Any:
+        """The life and the time of a text."""
+        from ..journal import utc
+        try:
+            return utc.parsed(value)
+        except ValueError:
+            self.fail(f"has to be a life and a time with its zone, as {utc.EXAMPLE}", parameter, context)
+
+
 NATURAL = Natural(0, 999_999_999)
 SECTIONS = {"Laboratory": ("build", "test", "case", "coverage", "lint", "drive", "campaign", "compare", "search", "against", "serve"),
             "Investigation": ("why", "check", "report", "table", "database", "seal", "verify"),
@@ -193,27 +207,25 @@ SLOTS = option("--slots", "read it as an image of N slots, whatever its first se
 FORCE = option("--force", "overwrite an existing file, but never a journal image")
 JSON = option("--json", "print JSON")
 JSON_LINES = option("--json", "print one JSON object per line")
-TIMES = [option("--times", "marks of the time of day (default: IMAGE.times, if it exists)", "FILE", PATH),
-         option("--drift", "maximum clock drift in ppm (default: 100)", "PPM", int),
-         option("--strangers", "go on where the marks name another unit or vehicle than IMAGE.identity")]
+UTC = option("--utc", "time of day at moment 0 of a life, such as 1=2026-03-01T10:00:00Z; once for each life", "LIFE=TIME", Begun(), multiple=True)
 JOBS = Jobs()
 WITHIN = Setting("--answer-within", "time limit for each answer of the other unit", "SECONDS", float, "units.other_unit:WITHIN_S")
 JOURNAL = [
     Command("table", "cli.journal_commands:write_table", "Print one row per journal record as CSV, or write a workbook",
             "Column names end in their units. Unknown values are empty.", "table image table.xlsx",
             IMAGE, Argument("out", "[OUT.csv|OUT.xlsx]", "output file; .xlsx makes a workbook (default: CSV on standard output)", required=False),
-            ALL, *TIMES, option("--damaged", "print instead the records of damaged or misplaced blocks, each with its slot and byte; nothing else "
+            ALL, UTC, option("--damaged", "print instead the records of damaged or misplaced blocks, each with its slot and byte; nothing else "
                                 "confirms them"), ANONYMOUS, FORCE),
     Command("database", "cli.journal_commands:write_database", "Add images to an SQLite database",
             "The database is created if it does not exist. An image that it already contains (by SHA-256) stays as it is.",
             "database image journals.db",
-            Argument("images", "IMAGE...", "journal images", nargs=-1, required=True), Argument("out", "OUT.db", "the database"), ALL, *TIMES),
+            Argument("images", "IMAGE...", "journal images", nargs=-1, required=True), Argument("out", "OUT.db", "the database"), ALL, UTC),
     Command("report", "cli.journal_commands:write_report", "Write a report with charts as one HTML file",
             "The page has no script and loads nothing from the network.", "report image report.html",
             IMAGE, Argument("out", "OUT.html", "the page to make"),
             option("--from first", "start at this event (120), place (300m) or moment (20.5s)", "WHERE"),
             option("--to last", "end at this event, place or moment", "WHERE"), option("--life", "report only this power cycle (life)", "N", int),
-            SLOTS, FORCE, *TIMES, option("--newest-first", "list the lives from the last to the first"), ANONYMOUS),
+            SLOTS, FORCE, UTC, option("--newest-first", "list the lives from the last to the first"), ANONYMOUS),
     Command("check", "cli.journal_commands:check_image", "Examine and replay an image, and list what is implausible",
             "Prints what `etcs_lab check` prints, and then implausible values, such as a movement that the recorded speeds don't explain. Status 4: "
             "something is lost, damaged, contradictory, different or implausible, as all commands about the image report it.", "check image",
@@ -235,8 +247,7 @@ EVIDENCE = [
             "damaged, contradictory or implausible, or the replay differs.", 'seal image evidence --by "J. Smith"',
             IMAGE, Argument("folder", "FOLDER", "the folder to make"), option("--by", "who seals it (default: the user of this machine)", "TEXT"),
             option("--medium", "the medium that the image was read from", "TEXT"),
-            option("--ssh-key", "sign with this OpenSSH key (ssh-keygen -Y sign)", "FILE"), option("--gpg-key", "sign with this OpenPGP key (gpg)", "NAME"),
-            *TIMES),
+            option("--ssh-key", "sign with this OpenSSH key (ssh-keygen -Y sign)", "FILE"), option("--gpg-key", "sign with this OpenPGP key (gpg)", "NAME")),
     Command("verify", "cli.evidence_commands:verify_bag", "Verify a folder of evidence, and list what was altered",
             "Status 4: a file was altered or is missing, a signature isn't valid, or the verdict of the image has a sentence.", "verify evidence",
             Argument("folder", "FOLDER", "a folder that `lab seal` made"),

@@ -10,11 +10,9 @@ from .journal_commands import say_verdict
 
 def seal_image(given: SimpleNamespace, progress: Progress) -> int:
     """Runs `lab seal`."""
-    from ..evidence import seal, signing, times
+    from ..evidence import seal, signing
     keys = [signing.Key(kind, name) for kind, name in (("ssh", given.ssh_key), ("openpgp", given.gpg_key)) if name]
-    how = seal.Sealing(given.by, given.medium, times.marks_of(given.image, given.times), times.DRIFT_PPM if given.drift is None else given.drift, keys,
-                       given.strangers)
-    found, judged = seal.seal(given.image, given.folder, how, progress)
+    found, judged = seal.seal(given.image, given.folder, seal.Sealing(given.by, given.medium, keys), progress)
     sys.stdout.write(f"sealed {shown(found['image']['name'])}, {found['image']['bytes']} bytes, by {shown(found['by'])}\n"
                      f"sha256 {found['image']['sha256']}\n")
     sys.stdout.flush()

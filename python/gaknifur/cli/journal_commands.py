@@ -26,22 +26,18 @@ def say_verdict(path: Path, found: Verdict) -> int:
 
 
 def note(journal: Journal) -> int:
-    """Reports marks of the time of day that aren't used, and the verdict of an image; returns the status."""
-    if journal.times is not None:
-        for fault in journal.times.faults():
-            say(f"{journal.times.path}: {fault}")
+    """Reports the verdict of an image; returns the status."""
     return say_verdict(journal.path, verdict.of(journal))
 
 
-def take_times(journal: Journal, given: SimpleNamespace) -> None:
-    """Reads the marks of the time of day: the file that is named, or the one next to the image; and the identity next to it."""
-    from ..evidence import identity, times
-    journal.identity = identity.of(journal.path)
-    path = times.marks_of(journal.path, given.times)
-    if path is not None:
-        if not given.strangers:
-            times.check_marks(journal.path, path, "Nothing of it was written.")
-        journal.times = times.Times.of(journal, path, times.DRIFT_PPM if given.drift is None else given.drift)
+def add_stated(journal: Journal, given: SimpleNamespace) -> None:
+    """Adds what isn't in the journal: whose the image is, by the file next to it, and the time of day of lives."""
+    from ..evidence import identity
+    journal.identity, journal.utc = identity.of(journal.path), dict(given.utc)
+    if len(journal.utc) < len(given.utc):
+        raise Failed("--utc names a life twice", WRONG_WORDS)
+    for life in journal.utc.keys() - {one["life"] for one in journal.records}:
+        raise Failed(f"{journal.path}: no event of life {life} is here, which --utc names. Nothing of it was written.", REFUSED)
 
 
 def write(out: files.Out | None, text: str | bytes | Iterable[str], source: Path) -> None:
@@ -64,8 +60,8 @@ def write_table(given: SimpleNamespace, progress: Progress) -> int:
     """Runs `lab table`."""
     if given.damaged and given.other_blocks:
         raise Failed("--damaged can't be combined with --all", WRONG_WORDS)
-    if given.anonymous and (given.damaged or given.other_blocks or given.times):
-        raise Failed("--anonymous can't be combined with --all, --damaged or --times", WRONG_WORDS)
+    if given.anonymous and (given.damaged or given.other_blocks):
+        raise Failed("--anonymous can't be combined with --all or --damaged", WRONG_WORDS)
     suffix = given.out.suffix.lower() if given.out is not None else ""
     if suffix not in ("", ".csv", ".xlsx"):
         raise Failed(f"{given.out}: the name has to end in .csv or .xlsx", WRONG_WORDS)
@@ -75,11 +71,11 @@ def write_table(given: SimpleNamespace, progress: Progress) -> int:
     out = out_of(given, given.image)
     journal = read(given.image, other_blocks=given.other_blocks, replay=True, why=not given.damaged, progress=progress,
                    strays=given.damaged)
-    take_times(journal, given)
-    from ..journal import tables, workbook
+    add_stated(journal, given)
+    from ..journal import tables, utc, workbook
     handed_out = anonymous.of(journal) if given.anonymous else journal
     table = tables.strays(journal) if given.damaged else anonymous.frame(handed_out) if given.anonymous else tables.frame(journal)
-    notes = [f"sha256 {handed_out.sha256}", f"read by {program.reader()}", *([handed_out.times.note()] if handed_out.times else [])]
+    notes = [f"sha256 {handed_out.sha256}", f"read by {program.reader()}", *([utc.note(journal.utc)] if journal.utc else [])]
     write(out, workbook.workbook(tables.written(table), notes) if is_book else tables.csv_parts(table), given.image)
     return note(journal)
 
@@ -87,13 +83,13 @@ def write_table(given: SimpleNamespace, progress: Progress) -> int:
 def write_database(given: SimpleNamespace, progress: Progress) -> int:
     """Runs `lab database`."""
     from ..journal import database, tables
-    if given.times is not None and len(given.images) > 1:
-        raise Failed("--times works with one image only; for more, put IMAGE.times next to each image", WRONG_WORDS)
+    if given.utc and len(given.images) > 1:
+        raise Failed("--utc works with one image only; add each one by itself", WRONG_WORDS)
     connection, status = database.open_database(given.out, given.images), 0
     try:
         for image in given.images:
             journal = read(image, other_blocks=given.other_blocks, replay=True, why=True, progress=progress)
-            take_times(journal, given)
+            add_stated(journal, given)
             progress("database", 0, 0)
             if not database.add(connection, journal, tables.frame(journal)):
                 say(f"{image}: is in the database already")
@@ -103,23 +99,13 @@ def write_database(given: SimpleNamespace, progress: Progress) -> int:
     return status
 
 
-def marks_need_all(given: SimpleNamespace) -> bool:
-    """Whether a mark is at an event, which is looked up in the whole journal."""
-    from ..evidence import times
-    path = times.marks_of(given.image, given.times)
-    return path is not None and any(mark.event is not None for mark in times.read_marks(path)[0])
-
-
 def write_report(given: SimpleNamespace, progress: Progress) -> int:
     """Runs `lab report`."""
     from ..journal.extent import Extent, bound
-    if given.anonymous and given.times:
-        raise Failed("--anonymous can't be combined with --times", WRONG_WORDS)
     extent = Extent(bound(given.first) if given.first else None, bound(given.last) if given.last else None, given.life)
     out = out_of(given, given.image)
-    part = None if marks_need_all(given) else extent.part
-    journal = read(given.image, replay=True, why=True, progress=progress, strays=True, part=part, slots=given.slots)
-    take_times(journal, given)
+    journal = read(given.image, replay=True, why=True, progress=progress, strays=True, part=extent.part, slots=given.slots)
+    add_stated(journal, given)
     from ..journal import report
     handed_out = anonymous.of(journal) if given.anonymous else journal
     write(out, report.page(handed_out, extent, progress, given.newest_first), given.image)

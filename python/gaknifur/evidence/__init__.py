@@ -1,1 +1,1 @@
-"""Sealed copies of images, times of day and signatures."""
+"""Sealed copies of images, and signatures."""

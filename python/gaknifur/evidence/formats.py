@@ -1,4 +1,4 @@
-"""Read evidence from outside: the files of bags, marks of the time of day and releases.
+"""Read evidence from outside: the files of bags and releases.
 
 Opening a file never blocks: a link, a pipe, a device or a folder is refused. A file is read up to a bound. Parsed files have closed
 schemas: an unknown member, a value of another type and a number beyond its bound are refused. `Unfit` says what is wrong; the caller

@@ -1,8 +1,7 @@
 """Read whose an image is: a text file next to it, with a line each for `unit`, `vehicle` and `software`, such as
-`unit: 17`. The unit's host writes it. A file of marks has such lines itself (module `times`). It is outside the journal and outside the proof, and no power-up reads it.
+`unit: 17`. The unit's host writes it. It is outside the journal and outside the proof, and no power-up reads it.
 """
-from collections.abc import Iterable, Iterator
-from dataclasses import asdict, dataclass, replace
+from dataclasses import asdict, dataclass
 from pathlib import Path
 from typing import Self
 
@@ -36,27 +35,6 @@ class Identity:
             found[name] = shown(value)
         return cls(**found)
 
-    @classmethod
-    def is_line(cls, line: str) -> bool:
-        """Whether a line of a file of marks names a unit, vehicle or software."""
-        return line.partition(":")[0].strip() in cls.__dataclass_fields__
-
-    def with_line(self, line: str) -> Self:
-        """It with what another line says. ValueError if it names that already, or has no value."""
-        added = self.missing(self.parsed(line))
-        if not added:
-            raise ValueError
-        return replace(self, **added)
-
-    def missing(self, other: Self) -> dict[str, str]:
-        """What another one says and this one doesn't."""
-        return {name: value for name, value in asdict(other).items() if value is not None and getattr(self, name) is None}
-
-    def is_stranger(self, other: "Identity") -> bool:
-        """Whether another image is of another unit or vehicle. Software may change."""
-        return any(one is not None and two is not None and one != two
-                   for one, two in ((self.unit, other.unit), (self.vehicle, other.vehicle)))
-
     def text(self) -> str:
         """It as text."""
         return ", ".join(f"{name} {value}" for name, value in asdict(self).items() if value is not None) or "nothing is known"
@@ -78,32 +56,7 @@ def of(image: Path) -> Identity | None:
         raise Failed(f"{path}: {error}", REFUSED) from error
 
 
-def known(paths: Iterable[Path]) -> Iterator[tuple[Path, Identity]]:
-    """Whose images are, where a file says it."""
-    return ((path, one) for path in paths if (one := of(path)) is not None)
-
-
-def check(whose: Iterable[tuple[Path, Identity]], left: str) -> None:
-    """Refuses files of which two are of different units or vehicles."""
-    known = list(whose)
-    for at, (path, one) in enumerate(known):
-        for other_path, other in known[:at]:
-            if one.is_stranger(other):
-                raise stranger(path, one, f"{other_path} of {other.text()}; --strangers goes on. {left}")
-
-
-def stranger(path: Path, whose: Identity, other: str) -> Failed:
-    """The refusal of a file that is of another unit or vehicle."""
-    return Failed(f"{path}: is of {whose.text()}, and {other}", REFUSED)
-
-
 def keep(image: Path, copy: Path) -> None:
-    """Copies the identity of an image to a copy of it, which may have it already. Refuses another one."""
-    own = of(image)
-    if own is None:
-        return
-    other = of(copy)
-    if other is None:
+    """Copies the identity of an image to a copy of it."""
+    if of(image) is not None:
         files.write_new(path_of(copy), files.bytes_of(path_of(image)))
-    elif own.is_stranger(other):
-        raise stranger(copy, other, f"{image} of {own.text()}. Nothing was written.")

@@ -27,16 +27,15 @@ from ..journal.verdict import Verdict
 from ..program import DEVICE, NOT_WHOLE, REFUSED, WHOLE, Failed, Run
 from . import bag, formats, identity, signing
 from .formats import Unfit
-from .times import DRIFT_PPM, Times, check_marks
 
-IMAGE, SEAL, PARTS, TIMES = "image", "seal.json", "digests.csv", "image.times"
+IMAGE, SEAL, PARTS = "image", "seal.json", "digests.csv"
 IDENTITY = IMAGE + identity.ENDING
 WORDS = {"examine.json": ["examine", "--json"], "events.jsonl": ["events", "--all"], "replay.jsonl": ["replay", "--json"],
          "why.jsonl": ["why", "--json"]}
 """The files with the output of `etcs_lab` about the image, and its arguments."""
 DRAWN = ("table.csv", "journal.db", "report.html")
 """The files that this package makes of the image."""
-FILES = (IMAGE, IDENTITY, TIMES, SEAL, PARTS, *WORDS, *DRAWN)
+FILES = (IMAGE, IDENTITY, SEAL, PARTS, *WORDS, *DRAWN)
 """The files that the payload of a bag may have."""
 BAG = (*(f"{bag.PAYLOAD}/{name}" for name in FILES), bag.DECLARATION, bag.INFO, *map(bag.MANIFEST.format, bag.ALGORITHMS),
        *map(bag.TAG_MANIFEST.format, bag.ALGORITHMS), signing.REQUEST, *signing.LOOSE)
@@ -54,11 +53,7 @@ class Sealing:
 
     by: str | None = None
     medium: str | None = None
-    times: Path | None = None
-    drift_ppm: int = DRIFT_PPM
     keys: list[signing.Key] = field(default_factory=list)
-    strangers: bool = False
-    """Whether marks of another unit or vehicle are sealed too."""
 
 
 def now() -> str:
@@ -142,12 +137,9 @@ def parts_text(data: Path) -> str:
     return out.getvalue()
 
 
-def draw(data: Path, out: Path, name: str, drift_ppm: int, progress: Progress) -> Verdict:
+def draw(data: Path, out: Path, name: str, progress: Progress) -> Verdict:
     """Makes table, database and report of a bag's image in a folder, under the image's original name; returns its verdict."""
-    times = data / TIMES
     journal = read(data / IMAGE, replay=True, why=True, progress=progress, strays=True, is_own=True)
-    if times.is_file():
-        journal.times = Times.of(journal, times, drift_ppm)
     journal.identity = identity.of(data / IMAGE)
     journal.path = Path(name)
     from ..journal import database, report, tables
@@ -183,23 +175,18 @@ def info_of(seal: Json) -> list[tuple[str, str]]:
 def seal(image: Path, folder: Path, how: Sealing, progress: Progress = silent) -> tuple[Json, Verdict]:
     """Makes a bag of an image; returns the content of `seal.json` and the verdict of the image. An image that isn't formatted is sealed
     too, without table, database and report."""
-    if how.times is not None and not how.strangers:
-        check_marks(image, how.times, "Nothing was sealed.")
     with files.open_to_read(image) as source, files.new_folder(folder, BAG) as new:
         data = new / bag.PAYLOAD
         data.mkdir()
         progress("copy", 0, 0)
         digests = copy_image(source, image, data / IMAGE)
-        if how.times is not None:
-            (data / TIMES).write_bytes(files.bytes_of(how.times))
         identity.keep(image, data / IMAGE)
         name = shown(image.name)
         runs = write_outputs(data)
         is_image = runs["examine.json"]["status"] in (WHOLE, NOT_WHOLE)
-        judged = draw(data, data, name, how.drift_ppm, progress) if is_image else NO_IMAGE
+        judged = draw(data, data, name, progress) if is_image else NO_IMAGE
         found = {"version": VERSION, "sealed_at": now(), "by": shown(how.by or who()), "medium": how.medium and shown(how.medium),
                  "image": {"name": name, "bytes": (data / IMAGE).stat().st_size, **digests}, "etcs_lab": runs, "tools": tools(),
-                 "times": {"file": TIMES, "drift_ppm": how.drift_ppm} if how.times else None,
                  "signed_by": [{"kind": key.kind, "key": key.fingerprint()} for key in how.keys]}
         check_seal(found)
         (data / SEAL).write_text(json.dumps(found, indent=1, ensure_ascii=False) + "\n", encoding="utf-8")
@@ -234,7 +221,6 @@ SCHEMA = formats.Members({
         for name, words in WORDS.items()}),
     "tools": formats.Members({"lab": LINE, "lab_is_proved": formats.OneOf((False,)), "etcs_lab_sha256": formats.SHA256,
                                "etcs_lab_is_proved": formats.OneOf((True, False, None)), "python": LINE, "libraries": LINE}),
-    "times": formats.Maybe(formats.Members({"file": formats.OneOf((TIMES,)), "drift_ppm": formats.Number(1 << 40)})),
     "signed_by": formats.Many(formats.Members({"kind": formats.OneOf(tuple(signing.NAMES)), "key": FINGERPRINTS}), len(signing.NAMES))})
 """The schema of `seal.json`."""
 
@@ -290,9 +276,6 @@ def check_image(data: Path, seal: Json, found: Verification) -> None:
         found.faults.append(f"{bag.PAYLOAD}/{SEAL}: says that the image has {seal['image']['bytes']} bytes, and it has {size}")
     else:
         found.shown.append(f"the image has {size} bytes and the SHA-256 {now['sha256']}")
-    if (seal["times"] is not None) != (data / TIMES).exists():
-        found.faults.append(f"{bag.PAYLOAD}/{SEAL}: says that marks of the time of day are in {TIMES}, which is missing" if seal["times"] else
-                            f"{bag.PAYLOAD}/{SEAL}: lists no marks of the time of day, and there is a file {TIMES}")
 
 
 def check_contents(data: Path, seal: Json, found: Verification) -> None:
@@ -318,11 +301,11 @@ def check_contents(data: Path, seal: Json, found: Verification) -> None:
 
 def check_drawn(data: Path, seal: Json, found: Verification) -> None:
     """Makes table, database and report again. By the product that sealed the bag they have to be the same bytes."""
-    now, drift = tools(), seal["times"]["drift_ppm"] if seal["times"] else DRIFT_PPM
+    now = tools()
     is_same = all(seal["tools"][name] == now[name] for name in ("lab", "etcs_lab_sha256", "python", "libraries"))
     with tempfile.TemporaryDirectory(prefix="gaknifur-") as room:
         if is_formatted(seal):
-            draw(data, Path(room), seal["image"]["name"], drift, silent)
+            draw(data, Path(room), seal["image"]["name"], silent)
         for name in DRAWN:
             made, is_there = Path(room, name), formats.is_there(data / name)
             if not made.exists() and not is_there:

@@ -26,7 +26,7 @@ def of(journal: Journal) -> Journal:
     examination["image"]["sha256"] = LEFT_OUT
     records = [without(one) | {"running_number": None} if any(one.get(name) is not None for name in ENTRIES) else one for one in journal.records]
     return replace(journal, path=Path(LEFT_OUT), examination=examination, records=records, replay=without(journal.replay), strays=[], identity=None,
-                   times=None, verdict=verdict.of(journal))
+                   verdict=verdict.of(journal))
 
 
 def frame(journal: Journal) -> "pd.DataFrame":

@@ -14,19 +14,18 @@ import numpy as np
 import pandas as pd
 
 from .. import files, program
-from ..evidence import times
 from ..program import DEVICE, REFUSED, Failed
 from . import _words, braking, causes, plausibility, tables, verdict
 from .reading import Journal, Json
 
-VERSION = 7
+VERSION = 8
 """The `user_version` of the schema."""
 GREATEST = 2**62
 EVENT = (
     "block event life stretch kind time_ms mode level brake place_cm uncertainty_cm min_safe_front_cm max_safe_front_cm "
     "limit_m_per_h movement_cm reading_m_per_h speed_m_per_h word now_ms action refused identity running_number "
     "chosen_level confirmed acknowledged length_cm maximum_m_per_h category deceleration_cm_per_s2 reaction_ms "
-    "causes_not_known trip_cause trip_cause_event limit_cause utc_by_marks utc_uncertainty_ms"
+    "causes_not_known trip_cause trip_cause_event limit_cause utc_stated"
 ).split() + list(tables.SHOWS)
 BEFORE = {"mode_before": "mode", "level_before": "level", "brake_before": "brake", "speed_before_m_per_h": "speed_m_per_h"}
 NEXT = {"next_event": "event", "next_ms": "time_ms", "next_cm": "place_cm"}
@@ -129,7 +128,6 @@ def add_all(connection: sqlite3.Connection, journal: Journal, table: pd.DataFram
     add_events(connection, image, table)
     for row in map(braking.flat, braking.rows(journal.records)):
         insert(connection, "braking", ["image", *row], [[image, *row.values()]])
-    add_marks(connection, image, journal)
     add_causes(connection, image, table)
 
 
@@ -188,16 +186,6 @@ def add_events(connection: sqlite3.Connection, image: int, table: pd.DataFrame) 
     insert(connection, "unused", ["image", "block", "event", "unused", "nid_packet", *UNUSED],
            ([image, *one, place, packet["packet"], *map(packet.get, UNUSED)]
             for one, unused in zip(at, heard["unused"]) for place, packet in enumerate(unused or ())))
-
-
-def add_marks(connection: sqlite3.Connection, image: int, journal: Journal) -> None:
-    """Adds the marks of the time of day, and whether another mark contradicts each."""
-    if journal.times is None:
-        return
-    bad = {mark.line for life in journal.times.lives.values() for pair in life.contradictions for mark in pair}
-    insert(connection, "mark", ["image", "line", "life", "moment_ms", "event", "utc", "uncertainty_ms", "source", "drift_ppm", "contradicts"],
-           ([image, one.line, one.life, one.moment_ms, one.event, times.iso(one.utc_ms), one.uncertainty_ms, one.source,
-             journal.times.drift_ppm, one.line in bad] for one in journal.times.marks))
 
 
 def telegram_row(row: tuple[int, int, str, Json]) -> list[Any]:

@@ -15,10 +15,10 @@ from ..escaping import shown
 from ..program import DEVICE, NOT_WHOLE, REFUSED, WHOLE, Failed, Run
 from . import layout, sizes
 from .part import Changes, Part
+from .utc import Begun
 
 if TYPE_CHECKING:
     from ..evidence.identity import Identity
-    from ..evidence.times import Times
     from .verdict import Verdict
 
 Json = dict[str, Any]
@@ -119,8 +119,8 @@ class Journal:
     """The verdict, once it is computed (module `verdict`)."""
     identity: "Identity | None" = None
     """Whose the image is, by the file next to it."""
-    times: "Times | None" = None
-    """The marks of the time of day next to the image, if there are any. They belong neither to the journal nor to the output of `etcs_lab`."""
+    utc: Begun = field(default_factory=dict)
+    """The time of day at moment 0 of lives, as it was stated. It belongs neither to the journal nor to the output of `etcs_lab`."""
     is_part: bool = False
     """Whether only the records of a part were read, with those that its beginning needs (module `part`). The examination and the replay are of
     the whole image."""

@@ -10,7 +10,7 @@ import pandas as pd
 
 from .. import program
 from ..program import REFUSED, Failed
-from . import braking, braking_charts, causes, charts, plausibility, summary, tables, wording
+from . import braking, braking_charts, causes, charts, plausibility, summary, tables, utc, wording
 from .charts import Picture
 from .extent import Extent
 from .reading import Journal, Json, Progress, silent
@@ -169,9 +169,8 @@ def limit_text(table: pd.DataFrame, row: Any) -> str:
 
 
 def utc_texts(table: pd.DataFrame) -> Json:
-    """The time of day of each row by marks, with its uncertainty, if it is known."""
-    return {row: f"{utc.replace('T', ' ').replace('Z', ' UTC')} ±{uncertainty} ms"
-            for row, utc, uncertainty in zip(table.index, table["utc_by_marks"], table["utc_uncertainty_ms"]) if utc is not None}
+    """The time of day of each row whose life's was stated."""
+    return {row: time.replace("T", " ").replace("Z", " UTC") for row, time in table["utc_stated"].items() if time is not None}
 
 
 @functools.cache
@@ -287,4 +286,4 @@ def page(journal: Journal, extent: Extent = Extent(), progress: Progress = silen
         strays=stray_rows(journal), more_strays=max(len(journal.strays) - MOST_STRAYS, 0),
         way_m=float(table["movement_cm"].fillna(0).abs().sum()) / 100, modes=list(dict.fromkeys(table["mode"])),
         service=int((found["worst"] == "service").sum()), emergency=int((found["worst"] == "emergency").sum()),
-        causes=causes, words=wording, pd=pd, plausible=plausibility, reader=program.reader(), utc_of=utc_texts(records).get)
+        causes=causes, words=wording, pd=pd, plausible=plausibility, reader=program.reader(), stated=utc, utc_of=utc_texts(records).get)

@@ -140,9 +140,9 @@ CREATE TABLE trip_word (
 -- Each record. Those of one stretch are of one life, and follow one another without a gap. speed_m_per_h is that of the
 -- last reading of the stretch, 0 from a power-up on. An uncertainty beyond 2^62 cm is NULL. causes_not_known is the reason
 -- why the causes of its brake aren't known; NULL where the replay agrees. trip_cause is why the trip that isn't acknowledged
--- was entered, trip_cause_event by which event. limit_cause is the kind of what decides the limit. utc_by_marks is the time
--- of day of time_ms by the marks next to the journal, outside the journal and the proof. The last columns have values of the
--- record before it in its stretch (NULL at the beginning of a stretch), and the event, moment and place of the next one.
+-- was entered, trip_cause_event by which event. limit_cause is the kind of what decides the limit. utc_stated is the time
+-- of day of time_ms by what the user stated, outside the journal and the proof. The last columns have values of the record
+-- before it in its stretch (NULL at the beginning of a stretch), and the event, moment and place of the next one.
 CREATE TABLE event (
     image INTEGER NOT NULL,
     block INTEGER NOT NULL,
@@ -187,8 +187,7 @@ CREATE TABLE event (
     trip_cause TEXT REFERENCES trip_word,
     trip_cause_event INTEGER,
     limit_cause TEXT,
-    utc_by_marks TEXT,
-    utc_uncertainty_ms INTEGER,
+    utc_stated TEXT,
     mode_before TEXT,
     level_before INTEGER,
     brake_before TEXT,
@@ -198,22 +197,6 @@ CREATE TABLE event (
     next_cm INTEGER,
     PRIMARY KEY (image, block, event),
     FOREIGN KEY (image, block) REFERENCES block ON DELETE CASCADE
-) STRICT, WITHOUT ROWID;
-
--- The marks of the time of day next to the journal: the time of a clock at a moment of a life, or at an event. They are
--- outside the journal and outside the proof. drift_ppm is the assumed maximum drift of the unit's clock.
-CREATE TABLE mark (
-    image INTEGER NOT NULL REFERENCES image ON DELETE CASCADE,
-    line INTEGER NOT NULL,
-    life INTEGER,
-    moment_ms INTEGER,
-    event INTEGER,
-    utc TEXT NOT NULL,
-    uncertainty_ms INTEGER NOT NULL,
-    source TEXT NOT NULL,
-    drift_ppm INTEGER NOT NULL,
-    contradicts INTEGER NOT NULL CHECK (contradicts IN (0, 1)),
-    PRIMARY KEY (image, line)
 ) STRICT, WITHOUT ROWID;
 
 -- The lines of `etcs_lab why`, for events whose replay agrees: those that change the brake, the limit, a cause or the kind
@@ -405,4 +388,4 @@ FROM extent
 JOIN step AS first ON (first.image, first.block, first.event) = (extent.image, extent.first_block, extent.first_event)
 JOIN step AS last ON (last.image, last.block, last.event) = (extent.image, extent.last_block, extent.last_event);
 
-PRAGMA user_version = 7;
+PRAGMA user_version = 8;

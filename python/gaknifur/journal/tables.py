@@ -17,8 +17,7 @@ Columns of `frame`, in their order:
   `trip_cause`, `trip_cause_event`: while a trip isn't acknowledged, why it was entered and by which event; `limit_cause`: the
   kind of what decides the limit; `held`: the causes as a dictionary; `trip`: the trip that isn't acknowledged; `why`: the line
   of `etcs_lab why` (module `causes`). They are missing if they aren't known.
-- `utc_by_marks`, `utc_uncertainty_ms`: the time of day of `time_ms`, and its uncertainty, by marks next to the journal
-  (module `evidence.times`). They are outside the journal and outside the proof, and missing if there are no marks.
+- `utc_stated`: the time of day of `time_ms`, by what the user stated of its life (module `utc`). It is outside the journal and outside the proof.
 
 Columns of `strays`, the records of damaged blocks and of blocks in a wrong slot: `source`; `slot` and `byte`, the place of a
 record in the image; and the columns above that the record itself contains. For a damaged block the life is missing, and so is
@@ -32,8 +31,7 @@ from typing import Any
 import numpy as np
 import pandas as pd
 
-from ..evidence import times
-from . import causes, csv_cells, refused_actions, unused_packets
+from . import causes, csv_cells, refused_actions, unused_packets, utc
 from .layout import SECTOR, SLOT_SECTORS
 from .reading import Journal, Json
 from .wording import INDICATIONS
@@ -204,8 +202,7 @@ def frame(journal: Journal) -> pd.DataFrame:
     if not any(found["source"]):
         del found["source"]
     columns: dict[str, Any] = {name: found.pop(name) for name in ORDER if name in found}
-    by_marks = times.columns(journal)
-    columns |= by_cause | {"utc_by_marks": by_marks["utc_by_marks"], "utc_uncertainty_ms": numbers(by_marks["utc_uncertainty_ms"])}
+    columns |= by_cause | {"utc_stated": [utc.at(journal.utc, one["life"], one["time_ms"]) for one in journal.records]}
     table = pd.DataFrame(columns, copy=False)  # (each column was made for it)
     table.insert(table.columns.get_loc("action") + 1, "refused", refused_actions.refused(table))
     return table

@@ -239,6 +239,7 @@ class Checks(unittest.TestCase):
         with tempfile.TemporaryDirectory() as room:
             program, image, listing = (Path(room) / name for name in ("etcs_lab", "image", "events"))
             listing.write_text("".join(json.dumps(one) + "\n" for one in events))
+            image.touch()
             program.write_text(f"#!/bin/sh\n[ $1 != events ] || exec cat {listing}\n[ $2 != --json ] || exec printf '%s\\n' {shlex.quote(CHECKED)}\n"
                                f"printf '%s' \"{printed}\"\n"
                                + (f"echo \"{message}\" 1>&2\n" if message else "") + f"exit {status}\n")

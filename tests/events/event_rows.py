@@ -14,8 +14,8 @@ sys.path.insert(0, str(Path(__file__).resolve().parents[1] / "plain"))
 from images import MARKUP, blocks, cut_images, damaged_images, example_images, random_images, slots_of, worked_images  # noqa: E402
 from event_lines import Refused, image_lines  # noqa: E402
 
-RINGS, SEED = 300, 41
-LEAST_LINES, LEAST_IMAGES = 45_000, 2_800
+RINGS, SEED = 800, 41
+LEAST_LINES, LEAST_IMAGES = 70_000, 2_100
 SOURCES = {"journal", "after_gap", "replaced", "unwritten", "misplaced", "damaged"}
 LEAST_DEMANDED, LEAST_UNKNOWN, LEAST_KINDS = 2_000, 500, 7
 DEMANDED = {"trip", "service_brake", "not_obeyed", "unreadable"}
@@ -94,7 +94,7 @@ class Count:
         actions = {value for key, value in self.seen if key == "action"}
         print(f"events: {self.lines} lines of {self.images} listings compared field by field, {self.differ} differ; "
               f"{self.demanded} demands of a guard, {self.unknown} telegrams without the record before")
-        few = self.lines < LEAST_LINES or self.images < LEAST_IMAGES or kinds != SOURCES or len(actions) < 11
+        few = self.lines < LEAST_LINES or self.images < 2 * LEAST_IMAGES or kinds != SOURCES or len(actions) < 11
         few = few or self.demanded < LEAST_DEMANDED or self.unknown < LEAST_UNKNOWN or {what for what, _ in self.demands} != DEMANDED or len(self.demands) < LEAST_KINDS
         if few:
             print(f"too little was tried: sources {sorted(kinds)}, {len(actions)} actions, demands {self.demands}")

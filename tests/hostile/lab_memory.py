@@ -18,7 +18,7 @@ from lab_words import all_words, lab_ran, laid
 SAYS = re.compile(r"etcs_lab: [^\n]+: out of memory\n")
 STOPPED = re.compile(r'\{"end":"stopped","step":(null|[0-9]+),"number":(4|12),"name":"NoMemory"\}\n$')
 ANSWERS = ("refused memory\n", '{"refused":{"name":"memory"}}\n')
-REFUSED = re.compile(r'\{"id":("good"|"faulty"|"lives"|null),("file":"[^"]+",)?"line":[123],"status":"no_memory","name":"NoMemory"\}')
+REFUSED = re.compile(r'\{"id":("good"|"faulty"|"beyond"|"lives"|null),("file":"[^"]+",)?"line":[1234],"status":"no_memory","name":"NoMemory"\}')
 LIFE = {"status": "no_memory", "name": "NoMemory"}
 MOST, LEAST = 100_000, 300
 
@@ -77,7 +77,7 @@ def main():
         folder = Path(name)
         refuse, files = built("refuse"), laid(folder)
         for words in all_words(files):
-            stdin = str(files["telegram"]) if words[-1] == "-" else None
+            stdin = str(files["lines"]) if words[-1] == "-" else None
             counts.append(series(words, stdin, folder / "said", refuse, failures))
     failures.unless(sum(counts) >= LEAST, f"only {sum(counts)} requests were refused")
     return failures.end(f"memory refused to etcs_lab: {sum(counts)} requests in {len(counts)} runs")

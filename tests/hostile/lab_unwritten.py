@@ -44,7 +44,7 @@ def main():
     with room() as name:
         files = laid(Path(name))
         for words in all_words(files):
-            stdin = str(files["telegram"]) if words[-1] == "-" else None
+            stdin = str(files["lines"]) if words[-1] == "-" else None
             status, printed, said = lab_ran(words, stdin)
             failures.unless(not SAYS.search(said), f"{words}: nothing hinders it, and it says {said!r}")
             count += bool(printed)

@@ -7,16 +7,13 @@ import subprocess
 from built import AUTHORITY, FULL_SUPERVISION, RESTRICTION, STAFF_RESPONSIBLE, TOP, formatted, run_program
 
 LAB = os.environ.get("ETCS_LAB") or str(TOP / "crates/etcs_lab/out/etcs_lab")
-HEADER = {"Q_UPDOWN": 1, "M_VERSION": 16, "Q_MEDIA": 0, "N_PIG": 0, "N_TOTAL": 0, "M_DUP": 0, "M_MCOUNT": 255, "NID_C": 1, "NID_BG": 2, "Q_LINK": 1}
-TELEGRAM = {"header": HEADER, "packets": [{"fields": [["NID_PACKET", 66], ["Q_DIR", 2], ["NID_TSR", 8]]}]}
-ADVISED = {"groups": [{"at": 500_000, "spacing": 1, "balises": [RESTRICTION]}], "steps": [{"driver": [6]}]}
 FAULTY = {"groups": [{"at": 0, "spacing": 1, "balises": [RESTRICTION]}, {}], "steps": [{"dirve": [1, 1]}, {"clock": -1}], "more": 1}
-NAMES_TWICE = '{"groups": [], "steps": [{"flush": true, "flush": true}], "steps": []}'
+BEYOND = {"groups": [], "steps": [{"flush": True}, {"clock": -1}]}
 
 
 def laid(folder):
-    """The files that the words are given: two images, one of them altered, scenarios and telegrams. By a name each."""
-    files = {name: folder / name for name in ("image", "altered", "telegram", "twice", "no_telegram", "good", "advised", "faulty", "names", "lines")}
+    """The files that the words are given: two images, one of them altered, and scenarios. By a name each."""
+    files = {name: folder / name for name in ("image", "altered", "good", "faulty", "beyond", "lines")}
     formatted(files["image"], 4)
     files["good"].write_text(json.dumps(STAFF_RESPONSIBLE))
     for scenario in (STAFF_RESPONSIBLE, FULL_SUPERVISION):
@@ -25,29 +22,23 @@ def laid(folder):
     data = bytearray(files["image"].read_bytes())
     data[512 + 512 + 700] ^= 1
     files["altered"].write_bytes(data)
-    files["telegram"].write_text(json.dumps(TELEGRAM))
-    files["twice"].write_text(json.dumps(TELEGRAM).replace('"NID_C"', '"NID_C": 1, "NID_C"'))
-    files["no_telegram"].write_text(json.dumps(TELEGRAM | {"bits": 1}))
-    files["advised"].write_text(json.dumps(ADVISED))
     files["faulty"].write_text(json.dumps(FAULTY))
-    files["names"].write_text(NAMES_TWICE)
+    files["beyond"].write_text(json.dumps(BEYOND))
     files["lines"].write_text("".join(json.dumps({"id": name, "scenario": scenario}) + "\n" for name, scenario in (
-        ("good", STAFF_RESPONSIBLE), ("faulty", FAULTY), ("lives", [STAFF_RESPONSIBLE, FULL_SUPERVISION]))))
+        ("good", STAFF_RESPONSIBLE), ("faulty", FAULTY), ("beyond", BEYOND), ("lives", [STAFF_RESPONSIBLE, FULL_SUPERVISION]))))
     return files
 
 
 def all_words(files):
     """Each command with each of its options, on each of its files."""
-    rows = [["--help"], ["telegram", "--schema"], ["telegram", "-"], ["decode", AUTHORITY], ["decode", "--json", AUTHORITY], ["decode", "9"], ["decode", "--json", "90"],
+    rows = [["--help"], ["decode", AUTHORITY], ["decode", "--json", AUTHORITY], ["decode", "9"], ["decode", "--json", "90"],
             ["packets", AUTHORITY], ["packets", "--json", AUTHORITY], ["packets", "90"]]
     for image in ("image", "altered"):
         rows += [[word, *option, files[image]] for word, option in (
             ("examine", []), ("examine", ["--json"]), ("events", []), ("events", ["--all"]), ("replay", []), ("replay", ["--json"]), ("why", []), ("why", ["--json"]))]
     rows += [["why", files["image"], "3"], ["why", "--json", files["image"], "3"]]
-    rows += [["telegram", files[name]] for name in ("telegram", "twice", "no_telegram")]
-    for name in ("good", "advised", "faulty", "names"):
-        rows += [["lint", files[name]], ["lint", "--json", files[name]], ["run", files[name]]]
-    rows += [["play", files["lines"]], ["play", "--slots=2", "--outputs=all", files["lines"], files["lines"]]]
+    rows += [["run", files[name]] for name in ("good", "faulty", "beyond")]
+    rows += [["play", "-"], ["play", files["lines"]], ["play", "--slots=2", "--outputs=all", files["lines"], files["lines"]]]
     return [list(map(str, row)) for row in rows]
 
 

@@ -78,7 +78,8 @@ Options:
         (["evnts", "image"], ("'evnts'", "a similar subcommand exists: 'events'", "Usage: etcs_lab <COMMAND>")),
         (["examine", "--jsn", "image"], ("'--jsn'", "a similar argument exists: '--json'", "Usage: etcs_lab examine")),
         (["examine", "--slots", "1", "image"], ("'1'", "'--slots <N>'", "1 is not in 2..=1048576")),
-        (["telegram"], ("FILE", "'--schema'")),
+        (["telegram", "image"], ("'telegram'", "Usage: etcs_lab <COMMAND>")),
+        (["lint", "image"], ("'lint'", "Usage: etcs_lab <COMMAND>")),
     ):
         printed, said, status = run(program, words)
         compared.same(f"words {words}", (printed, [one for one in named if one not in said], status), ("", [], 2))
@@ -94,9 +95,9 @@ def compare_words(program, room, compared):
         ["examine"], ["examine", "--jso", str(good)], ["examine", str(good), "x"], ["look", str(good)], ["examine", "--json"], ["--json"], [""],
         ["--", "examine", str(good)], ["--json", "examine", str(good)], ["examine", "--json", "--json", str(good)], ["examine", "--json=1", str(good)],
         ["examine", "-j", str(good)], ["examine", "--all", str(good)], ["events", "--json", str(good)], ["why", str(good), "x"],
-        ["why", str(good), "-1"], ["why", str(good), "8", "9"], ["check"], ["check", str(good), "x"], ["check", "--all", str(good)], ["telegram"], ["telegram", "--schema", str(good)], ["decode"], ["lint", str(good), "x"],
+        ["why", str(good), "-1"], ["why", str(good), "8", "9"], ["check"], ["check", str(good), "x"], ["check", "--all", str(good)], ["decode"],
         ["--slots", "6"], ["--slots", "6", "--help"], ["--slots", "6", "examine", str(good)],
-        ["examine", "--slots", "6"], ["examine", str(good), "--slots"], ["examine", "--slots", "6", "--slots", "6", str(good)], ["lint", "--slots", "6", str(good)],
+        ["examine", "--slots", "6"], ["examine", str(good), "--slots"], ["examine", "--slots", "6", "--slots", "6", str(good)],
         ["decode", "--slots", "6", "90"], ["run", str(good), "--slots", "6"], ["play", "--slots", "1"], ["play", "--outputs"],
         ["play", "--outputs", "some"], ["play", "--json"], ["examine", "--", "--slots", "6", str(good)],
         *(["examine", "--slots", slots, str(good)] for slots in ("", "1", "1048577", "-6", "6.0", "x", "4294967302")),

@@ -29,7 +29,7 @@ from random_lists import SUPERVISION, Numbers, event  # noqa: E402
 from replay import replayed  # noqa: E402
 
 SECTOR, SLOT = 512, 6 * 512
-LEAST = 1_500  # so many comparisons at least
+LEAST = 2_300  # so many images at least
 RANDOM = 60  # images of pseudo-random lives
 STARTED = ("hear 90007F802001506023A0E0190019427F80", "enter-identity A\"b\\c", "choose-level 1", "enter-running-number 4711",
            "enter-train-data 20000 160000 70 0 15", "start", "move 9046 100", "clock 700", "move 1 0", "move 7268 200", "move 1 0")
@@ -257,10 +257,11 @@ def cases():
 
 
 def compare(words):
-    tried = differ = 0
+    images = tried = differ = 0
     with tempfile.TemporaryDirectory() as folder:
         image = Path(folder) / "image"
         for name, data in cases():
+            images += 1
             image.write_bytes(data)
             wanted, text, lines = replayed(data)
             for is_json in (False, True):
@@ -274,10 +275,10 @@ def compare(words):
                     differ += 1
                     if differ <= 10:
                         print(f"{name}: status {done.returncode}, wanted {wanted}\n{differs}")
-    print(f"replay: {tried} comparisons, {differ} differ")
-    if tried < LEAST:
-        print(f"too few comparisons: {LEAST} are wanted")
-    return 1 if differ or tried < LEAST else 0
+    print(f"replay: {images} images, {tried} comparisons, {differ} differ")
+    if images < LEAST:
+        print(f"too few images: {LEAST} are wanted")
+    return 1 if differ or images < LEAST else 0
 
 
 def main(words):

@@ -25,6 +25,17 @@ from why import TRIPS, WORDS, Reasons  # noqa: E402
 
 SCENARIOS, SEED = 2_000, 42
 LEAST_LINES = 20_000  # so many outputs at least
+# Texts that are no scenario, the place of the fault, and what is wanted there.
+TEXT, SCENARIO = "JSON (RFC 8259)", "an object of groups, steps and perhaps cold"
+GROUP, STEP = "an object of at, spacing and balises, within their limits", "drive, telegram, clock, driver or flush, within its limits"
+FAULTS = (
+    ("", "", TEXT), ('{"groups":[],"steps":[}', "", TEXT), ("[]", "", SCENARIO), ('{"groups":[],"steps":[],"more":1}', "", SCENARIO),
+    ('{"steps":[]}', " at /groups", "a list of groups"), ('{"groups":[{}]}', " at /steps", "a list of steps"),
+    ('{"groups":[{}],"steps":[],"cold":3}', " at /cold", "0, 1 or 2"),
+    ('{"groups":[{"at":1,"spacing":1,"balises":["90"]},{"at":0,"spacing":1,"balises":["90"]}],"steps":[]}', " at /groups/1", GROUP),
+    ('{"groups":[],"steps":[{"clock":-1}]}', " at /steps/0/clock", STEP), ('{"groups":[],"steps":[{"clock":1},{"telegram":"9"}]}', " at /steps/1/telegram", STEP),
+    ('{"groups":[],"steps":[{"clock":1,"flush":true}]}', " at /steps/0", STEP), ('{"groups":[],"steps":[{"clok":1}]}', " at /steps/0", STEP),
+)
 MOST_PENDING = 8
 COLD = ("unknown", "moved", "not_moved")
 
@@ -158,11 +169,12 @@ class RunRows(Compared):
             self.met["stopped"] += end != "done"
 
     def faults(self):
-        """What is no scenario is reported on standard error, as `etcs run` does, and plays nothing."""
-        for text in ("", "[]", '{"groups":[],"steps":[{"clock":-1}]}', '{"groups":[],"steps":[{"telegram":"9"}]}'):
+        """What is no scenario is reported on standard error, as `etcs run` does, with its place, and plays nothing."""
+        for text, place, wanted in FAULTS:
             status, out, said = self.play(text)
             other, refusal, _ = self.ran(self.etcs, "run", self.path, self.image)
-            self.unless((status, out, said) == (other, "", f"etcs_lab: {self.path}: {refusal}"), f"{text!r}: {status} {out} {said}, {refusal}")
+            self.unless((status, out, said) == (other, "", f"etcs_lab: {self.path}: {refusal.strip()}{place}; wanted: {wanted}\n"),
+                        f"{text!r}: {status} {out} {said}, {refusal}")
         status, out, said = self.ran(self.lab, "run", self.folder / "nothing")
         self.unless((status, out) == (3, "") and said, f"no file: status {status}, {out}{said}")
         self.path.write_text('{"groups":[],"steps":[{"clock":1}]}')

@@ -26,7 +26,7 @@ from random_lists import SUPERVISION, TRACK, Numbers, event  # noqa: E402
 from replay_rows import blocks_of, bytes_of, damaged, examples, formats, formatted, image_of, on, parts, random_lives  # noqa: E402
 from why import TRIPS, WORDS, explained, walk_of  # noqa: E402
 
-LEAST = 400  # so many comparisons at least
+LEAST = 2_000  # so many images at least
 LEAST_LINES = 2_000  # so many lines with what decides a limit
 TRACKS, LEAST_RAISED = 560, 500  # so many tracks, and limits that are greater without what decided them
 # 2^40 cm would take more events than an image holds; the two modes that supervise by train data are entered with valid ones, and keep them.
@@ -34,7 +34,7 @@ UNMET = ("in_system_failure", "no_train_data")
 LEFT_OUT = ("before_oldest_block", "gap", "within_block", "unreadable")  # the reasons of events and blocks that aren't replayed
 KNOWN, KNOWN_OF = ("group_of_fix", "group_being_read", "links", "has_missed", "free", "authority", "areas", "announced_level", "restrictions", "countries",
                    "announced_values_cm", "train"), 3  # what has to be known somewhere; of each third image it is compared
-RANDOM = 150  # images of pseudo-random lives, along with those of the replays
+RANDOM, LONG = 1_900, 150  # images of pseudo-random lives, along with those of the replays, and how many of them have long ones
 
 SR = ("enter-identity A 1", "choose-level 1", "enter-train-data 20000 160000 70 0 15", "start")
 # By hand: a life in Staff Responsible (limit 40 km/h) or in Stand By, the event that is asked for, and what its line says of a cause.
@@ -130,9 +130,10 @@ def more_lives():
     for number in range(RANDOM):
         telegrams = TRACK + SUPERVISION[:2] if number % 3 == 0 else SUPERVISION
         disk = on(bytes_of(formatted(64)))
+        least, more = (20, 60) if number < LONG else (5, 30)
         for _ in range(1 + numbers.below(3)):
             unit = Unit(disk, numbers.one_of(COLD))
-            for _ in range(20 + numbers.below(60)):
+            for _ in range(least + numbers.below(more)):
                 unit.accept(*parts(event(numbers, telegrams, unit.known.life())))
                 if len(unit.pending) == 8 or numbers.below(5) == 0:
                     unit.flush()
@@ -151,7 +152,7 @@ class WhyRows(Compared):
     def __init__(self, program, image):
         super().__init__()
         self.program, self.image = program, image
-        self.lines = 0
+        self.images = self.lines = 0
         self.met = Counter()
 
     def run(self, data, *words):
@@ -192,6 +193,7 @@ class WhyRows(Compared):
 
     def compare_with_plain(self):
         for number, (name, data) in enumerate(images()):
+            self.images += 1
             walk = walk_of(data)
             wanted, text, lines = explained(walk)
             found = self.run(data, "@")
@@ -259,15 +261,15 @@ class WhyRows(Compared):
         self.demands_by_hand()
         self.compare_with_plain()
         counted = self.taken_away()
-        print(f"why: {self.count} comparisons, {self.lines} lines with what decides a limit, {self.differ} differ")
+        print(f"why: {self.images} images, {self.count} comparisons, {self.lines} lines with what decides a limit, {self.differ} differ")
         print(f"tracks without what decides: limit greater {counted['greater']}, another of equal force {counted['of equal force']}, left out "
               f"{counted['of more than one thing']}")
         kinds = [*KINDS, *(f"trip {why}" for why in TRIPS), *(f"group {kind}" for kind in GROUP_KINDS)]
         for word in [*(word for word, *_ in WORDS.values()), *kinds, *LEFT_OUT, *(f"known {name}" for name in KNOWN)]:
             if not self.met[word] and word not in UNMET:
                 self.report(f"no image has {word}")
-        if self.count < LEAST or self.lines < LEAST_LINES or counted["greater"] < LEAST_RAISED:
-            self.report(f"too few: {LEAST} comparisons, {LEAST_LINES} lines and {LEAST_RAISED} greater limits are wanted")
+        if self.images < LEAST or self.lines < LEAST_LINES or counted["greater"] < LEAST_RAISED:
+            self.report(f"too few: {LEAST} images, {LEAST_LINES} lines and {LEAST_RAISED} greater limits are wanted")
         return 1 if self.differ else 0
 
 

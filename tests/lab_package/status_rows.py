@@ -35,7 +35,6 @@ properties: [{note: never braked, law: none, never: {brake: emergency}}]
 ROWS = """\
 0 etcs format again 16
 0 etcs_lab examine image
-0 etcs_lab lint plain.json
 0 lab check image
 0 lab verify sealed
 0 lab test good
@@ -84,7 +83,6 @@ ROWS = """\
 4 etcs_lab why damaged
 4 etcs_lab replay altered
 4 etcs_lab check altered
-4 etcs_lab lint twice.json
 4 lab verify hollow
 4 lab lint twice.json
 4 lab check altered

@@ -17,7 +17,7 @@ from pathlib import Path
 
 TOP = Path(__file__).resolve().parents[2]
 sys.path.insert(0, str(TOP / "python"))
-from gaknifur.testing import track_checks  # noqa: E402
+from gaknifur.testing import lint, scenario_faults, track_checks  # noqa: E402
 
 LEAST_ROWS, LEAST_ITEMS, LEAST_CASES = 77, 28, 247
 HEAD = """test_case: NAME
@@ -67,7 +67,7 @@ def loa(lasts, more):
 def skipped(number, packet, text):
     """The row of a skipped packet that is read in Staff Responsible, with what a train of issue 2.3.0 does; None if it does nothing."""
     where = "/steps/4/telegram"
-    found = [("advice", where, [f"packet {number} is skipped"])] + ([(45, where, ["group 1/7", f"packet {number} ", "read in SR", text])] if text else [])
+    found = [(45, where, ["group 1/7", f"packet {number} ", "read in SR", text])] if text else []
     name = re.sub("[^a-z0-9]+", "_", f"skipped {packet}".lower())
     return name, found, f'{{steps: [use: staff, {{telegram: "NID_BG 7; {packet}"}}]}}', f"; {packet}", ""
 
@@ -188,9 +188,9 @@ ROWS = [
     ("a_slope_shorter_than_the_train", [(38, "/steps/0/telegram", ["-20 per mille over 199 m", "from 100 m", "a train of 200 m"])],
      f"{{steps: [{full('', 500).replace('G_A 0', 'G_A 0, D_GRADIENT 100, Q_GDIR 0, G_A 20, D_GRADIENT 199, Q_GDIR 1, G_A 0')}]}}",
      "D_GRADIENT 199", "D_GRADIENT 200"),
-    ("a_packet_3_of_an_installed_track", [("advice", "/steps/4/telegram", ["2 WrongLength"]), (39, "/steps/4/telegram", ["176 bits, and 147"])],
+    ("a_packet_3_of_an_installed_track", [(39, "/steps/4/telegram", ["176 bits, and 147"])],
      f'{{steps: [use: staff, {{telegram: "{INSTALLED}"}}]}}', INSTALLED, f"NID_BG 7; {VALUES}"),
-    ("a_packet_3_with_a_country_first", [("advice", "/steps/4/telegram", ["2 WrongLength"]), (39, "/steps/4/telegram", ["186 bits, and 157"])],
+    ("a_packet_3_with_a_country_first", [(39, "/steps/4/telegram", ["186 bits, and 157"])],
      f'{{steps: [use: staff, {{telegram: "{COUNTRY_FIRST}"}}]}}', COUNTRY_FIRST, f"NID_BG 7; {VALUES}"),
     ("an_authority_in_level_0", [(40, "/steps/4/telegram", ["group 1/7", "level 0"])],
      f"{{steps: [use: unfitted, {{telegram: \"NID_BG 7; 12: V_MAIN 24, L_ENDSECTION 300; {PROFILE}\"}}]}}",
@@ -235,14 +235,14 @@ ROWS = [
     ("a_known_track_that_is_cut_off", [(44, "/steps/0/telegram", ["known for 200 m"])],
      f"{{steps: [{loa(60, '')}, {{telegram: \"NID_BG 7; 27: D_STATIC 0, V_STATIC 24, Q_FRONT 1, D_STATIC 700, V_STATIC 127, Q_FRONT 1\"}}]}}",
      ", D_STATIC 700, V_STATIC 127, Q_FRONT 1", ""),
-    ("version_1_1", [("advice", "/steps/4/telegram", ["5 WrongVersion"]), (40, "/steps/4/telegram", ["M_VERSION 17, version 1.1", "2.3.0 uses it"])],
+    ("version_1_1", [(40, "/steps/4/telegram", ["M_VERSION 17, version 1.1", "2.3.0 uses it"])],
      f'{{steps: [use: staff, {{telegram: "91{RESTRICTION}"}}]}}', f"91{RESTRICTION}", f"90{RESTRICTION}"),
-    ("version_2_0", [("advice", "/steps/4/telegram", ["5 WrongVersion"]), (40, "/steps/4/telegram", ["M_VERSION 32, version 2.0", "2.3.0 trips"])],
+    ("version_2_0", [(40, "/steps/4/telegram", ["M_VERSION 32, version 2.0", "2.3.0 trips"])],
      f'{{steps: [use: staff, {{telegram: "A0{RESTRICTION}"}}]}}', f"A0{RESTRICTION}", f"90{RESTRICTION}"),
     # What a train of issue 2.3.0 does by an invalid value with Q_LINK 0 (V_TSR 121 here), and by a packet of a telegram of version 1.1.
-    ("an_invalid_value_of_an_unlinked_group", [("advice", "/steps/4/telegram", ["4 OutOfRange"]), (40, "/steps/4/telegram", ["OutOfRange", "service brake"])],
+    ("an_invalid_value_of_an_unlinked_group", [(40, "/steps/4/telegram", ["OutOfRange", "service brake"])],
      f'{{steps: [use: staff, {{telegram: "{INVALID}"}}]}}', INVALID, f"90{RESTRICTION}"),
-    ("a_stop_in_a_telegram_of_version_1_1", [("advice", "/steps/4/telegram", ["5 WrongVersion"]), (40, "/steps/4/telegram", ["version 1.1"]),
+    ("a_stop_in_a_telegram_of_version_1_1", [(40, "/steps/4/telegram", ["version 1.1"]),
                                              (45, "/steps/4/telegram", ["packet 137 ", "version 1.1", "trips in Staff Responsible (4.6.3, sure)"])],
      f'{{steps: [use: staff, {{telegram: "91{STOP}"}}]}}', f"91{STOP}", f"90{RESTRICTION}"),
     ("a_group_of_unknown_identity", [(40, "/steps/0/telegram", ["group 1/2", "NID_BG 16383 at 100 m", "Q_LINKREACTION 1 is applied"])],
@@ -267,7 +267,7 @@ ROWS = [
         (90, "90: NID_C 3, NID_BG 9", None),
     )),
     # A group that is passed in the reverse direction: its second balise comes first.
-    ("a_stop_for_the_reverse_direction", [("advice", "/steps/6/telegram", ["packet 137"]), (45, "/steps/6/telegram", ["group 1/7", "137"])],
+    ("a_stop_for_the_reverse_direction", [(45, "/steps/6/telegram", ["group 1/7", "137"])],
      "{steps: [use: staff, {telegram: \"NID_BG 7, N_PIG 1, N_TOTAL 1\"}, {drive: 3 m at 10 km/h}, "
      "{telegram: \"NID_BG 7, N_TOTAL 1; 137: Q_DIR 0, Q_SRSTOP 0\"}]}", "; 137: Q_DIR 0, Q_SRSTOP 0", ""),
 ]
@@ -291,7 +291,7 @@ def found_in(env, *words):
 def is_wanted(finding, wanted):
     item, pointer, texts = wanted
     said = json.dumps(finding)
-    return finding.get("safety", "advice") == item and finding["pointer"] == pointer and all(text in said for text in texts)
+    return finding.get("safety") == item and finding["pointer"] == pointer and all(text in said for text in texts)
 
 
 def check_rows(env, wrong):
@@ -327,17 +327,74 @@ SCENARIO = """{"groups": [],
   {"driver": [7]}, {"driver": [7]}
 ]}
 """
-# Line and column of what is found in it: the backward reading, and the second choice of Shunting, which the first one left nothing of.
-PLACES = [("advice", 5, 31, "/steps/6/driver"), (12, 4, 13, "/steps/4/drive")]
-EXAMPLES = {
-    "power_cut/restart.json": [("advice", f"/steps/{number}/driver") for number in (1, 2, 3, 4)],  # a second life, judged as a first one
-    "staff_responsible/scenario.json": [(33, "/groups/0/balises/0")],
-    "trip/scenario.json": [("advice", "/steps/10/driver")],
-}
+# Line and column of what is found in it: the backward reading.
+PLACES = [(12, 4, 13, "/steps/4/drive")]
+EXAMPLES = {"staff_responsible/scenario.json": [(33, "/groups/0/balises/0")]}
+
+# A text, and the faults that are found in it, counted by hand: line, column, pointer, what is wanted, what is there. A tab is one column.
+WHOLE, STEP = "an object of groups, steps and perhaps cold", "an object of one member: drive, telegram, clock, driver or flush"
+FAULTS = [
+    ('{"groups": [],\n "steps": [{"flush": 1}]}', [(2, 22, "/steps/0/flush", "true", "1")]),
+    ('{\r\n\t"groups": [],\r\n\t"steps":\t5}', [(3, 11, "/steps", "a list of steps", "5")]),
+    ('{"groups": [{"at": "1", "spacing": 1201, "balises": []}], "steps": []}', [
+        (1, 20, "/groups/0/at", "a whole number from 1 to 100000000 (cm)", '"1"'), (1, 53, "/groups/0/balises", "a list of 1 to 8 telegrams", "[]"),
+        (1, 36, "/groups/0/spacing", "a whole number from 1 to 1200 (cm)", "1201")]),
+    ('{"groups": [{"at": 1, "spacing": 1, "balises": ["9"]}], "steps": [{"clock": 1.0}, []]}', [
+        (1, 49, "/groups/0/balises/0", "a text of 1 to 104 bytes, two hexadecimal digits each", '"9"'),
+        (1, 77, "/steps/0/clock", "a whole number from 0 to 1099511627775 (ms)", "1.0"), (1, 83, "/steps/1", STEP, "[]")]),
+    ('{"groups": [], "steps": [{"driver": [5]}, {"driver": [7, 1]}, {"driver": [12]}, {"driver": [4, 2]}]}', [
+        (1, 37, "/steps/0/driver", "[5, what is confirmed]", "[5]"), (1, 54, "/steps/1/driver", "a code without values", "[7, 1]"),
+        (1, 75, "/steps/2/driver/0", "a code from 1 to 11", "12"), (1, 96, "/steps/3/driver/1", "level 0 or 1", "2")]),
+    ('{"groups": [], "cold": 3}', [(1, 1, "", WHOLE, "'steps' is a required property"), (1, 24, "/cold", "0 (unknown), 1 (moved) or 2 (not moved)", "3")]),
+    ('{"groups": [], "steps": [], "steps": []}', [(1, 1, "", "each name once in its object", '"steps" again')]),
+    ('{\n  "groups": groups\n}\n', [(2, 13, "", "JSON (RFC 8259)", "Expecting value")]),
+    ('{"groups": [], "steps": [{"clock": NaN}]}', [(1, 1, "", "JSON (RFC 8259)", "NaN is no number of JSON")]),
+]
+GROUP = {"at": 100, "spacing": 10, "balises": ["90"]}
+# The least and the greatest number at a place of a scenario: `etcs run` accepts both, and refuses the next one on each side, as the schema does.
+LIMITS = [
+    (0, 2, lambda n: {"cold": n, "groups": [], "steps": []}),
+    (1, 100_000_000, lambda n: laid(at=n)), (1, 1_200, lambda n: laid(spacing=n)), (1, 8, lambda n: laid(balises=["90"] * n)),
+    (1, 104, lambda n: laid(balises=["90" * n])), (1, 104, lambda n: stepped(telegram="90" * n)),
+    (-10_000, 1_000_000, lambda n: stepped(drive=[n, 0])), (0, 600_000, lambda n: stepped(drive=[0, n])), (2, 2, lambda n: stepped(drive=[0] * n)),
+    (0, (1 << 40) - 1, lambda n: stepped(clock=n)), (1, 11, lambda n: stepped(driver={1: [1, "A"], 2: [2, 1], 3: [3, 1, 1, 1, 1, 1], 4: [4, 1], 5: [5, 1],
+                                                                                      10: [10, 1]}.get(n, [n]))),
+    (1, 16, lambda n: stepped(driver=[1, "~" * n])), (ord(" "), ord("~"), lambda n: stepped(driver=[1, chr(n)])), (0, 99_999_999, lambda n: stepped(driver=[2, n])),
+    *((least, most, lambda n, k=k: stepped(driver=[3, *(n if i == k else 1 for i in range(5))]))
+      for k, (least, most) in enumerate(((1, 409_500), (1, 600_000), (1, 300), (0, 10_000), (0, 15)))),
+    (0, 1, lambda n: stepped(driver=[4, n])), (1, 4, lambda n: stepped(driver=[5, n])), (1, 4, lambda n: stepped(driver=[10, n])),
+    (1, 1, lambda n: stepped(driver=[6] * n)), (1, 1, lambda n: stepped(driver=[11] * n)), (6, 6, lambda n: stepped(driver=[3, 1, 1, 1, 1, 1, 1][:n])),
+]
+
+
+def laid(**more):
+    return {"groups": [GROUP | more], "steps": []}
+
+
+def stepped(**step):
+    return {"groups": [], "steps": [step]}
+
+
+def check_faults(etcs, wrong):
+    """The faults of scenarios in JSON, each at its place; and limits, as `etcs run` has them."""
+    with tempfile.TemporaryDirectory() as room:
+        path = Path(room, "s.json")
+        for text, wanted in FAULTS:
+            path.write_text(text, newline="")
+            found = [(one.place["line"], one.place["column"], one.pointer, one.members["wanted"], one.members["there"])
+                     for one in lint.lines_of(next(lint.of_file(path)))]
+            if found != wanted:
+                wrong.append(f"faults of {text!r}: wanted {wanted}, found {found}")
+        for least, most, made in LIMITS:
+            for number in (least, most, least - 1, most + 1):
+                path.write_text(json.dumps(made(number)))
+                is_refused = subprocess.run([etcs, "run", path, Path(room, "none")], capture_output=True, text=True).stdout.startswith("refused ")
+                if is_refused == (least <= number <= most) or bool(list(scenario_faults.faults(path))) != is_refused:
+                    wrong.append(f"{made(number)}: etcs run refuses it: {is_refused}; faults: {list(scenario_faults.faults(path))}")
 
 
 def item_and_place(finding):
-    return finding.get("safety", "advice"), finding["pointer"]
+    return finding.get("safety"), finding["pointer"]
 
 
 def check_words(env, wrong):
@@ -351,20 +408,19 @@ def check_words(env, wrong):
         path.write_text(SCENARIO)
         done = lab(env, "s.json", "--json", cwd=room)
         findings = [json.loads(line) for line in done.stdout.splitlines()]
-        wanted("places", [(one.get("safety", "advice"), one["line"], one["column"], one["pointer"]) for one in findings] == PLACES
+        wanted("places", [(one.get("safety"), one["line"], one["column"], one["pointer"]) for one in findings] == PLACES
                and done.returncode == 4 and all(one["file"] == "s.json" and one["case"] is None for one in findings), done)
         done = lab(env, "s.json", cwd=room)
-        wanted("lines", re.fullmatch(r"s.json:5:31: /steps/6/driver: the kernel doesn't accept .*\n"
-                                     r"s.json:4:13: SAFETY 12: /steps/4/drive: 1.5 m backward are read with speed 0, .*\. Do: .*\n", done.stdout), done)
-        done = lab(env, "s.json", "--without", "12", "--without", "advice", cwd=room)
+        wanted("lines", re.fullmatch(r"s.json:4:13: SAFETY 12: /steps/4/drive: 1.5 m backward are read with speed 0, .*\. Do: .*\n", done.stdout), done)
+        done = lab(env, "s.json", "--without", "12", cwd=room)
         wanted("without", (done.returncode, done.stdout) == (0, ""), done)
         path.write_text(SCENARIO.replace("[-150, 0]", "[-15000, 0]"))
         done = lab(env, "s.json", cwd=room)
-        wanted("faults first", done.returncode == 4 and done.stdout.startswith("s.json:4:13: /steps/4/drive: refused 3 OutOfRange; wanted: ")
-               and len(done.stdout.splitlines()) == 1, done)
+        wanted("only faults", (done.returncode, done.stdout) == (4, "s.json:4:14: /steps/4/drive/0: wanted a whole number from -10000 to 1000000 (cm), found -15000\n"),
+               done)
         path.write_text("{")
         done = lab(env, "s.json", cwd=room)
-        wanted("no JSON", done.returncode == 4 and "refused 1 NotJson" in done.stdout, done)
+        wanted("no JSON", done.returncode == 4 and "wanted JSON (RFC 8259), found " in done.stdout, done)
         for name, words, status in (("wrong item", ["s.json", "--without", "13"], 2), ("no word", [], 2), ("another word", ["s.json", "--jsn"], 2),
                                     ("no file", ["t.json"], 3), ("an empty folder", ["empty"], 1)):
             Path(room, "empty").mkdir(exist_ok=True)
@@ -386,7 +442,7 @@ def check_words(env, wrong):
         done = lab(env, "skipped.yaml", cwd=room)
         wanted("with the library", done.returncode == 4 and "SAFETY 45" in done.stdout, done)
         done = lab(env | {"GAKNIFUR_ETCS_UNIT": "none"}, "skipped.yaml", cwd=room)
-        wanted("without the library", done.returncode == 3 and "/steps/4/telegram: packet 137 is skipped" in done.stdout and "SAFETY" not in done.stdout
+        wanted("without the library", done.returncode == 3 and not done.stdout
                and "; telegrams that the unit skips or refuses are not judged" in done.stderr, done)
         done = lab(env | {"GAKNIFUR_ETCS_UNIT": "none"}, "s.yaml", cwd=room)
         wanted("no library needed", done.returncode == 4 and not done.stderr, done)
@@ -412,10 +468,11 @@ def main(etcs, lab_program):
     wrong = []
     check_rows(env, wrong)
     check_words(env, wrong)
+    check_faults(etcs, wrong)
     check_own(env, wrong)
     for one in wrong:
         print(f"tests/suites/lint_rows.py: {one}")
-    items = {item for _, wanted, *_ in ROWS for item, *_ in wanted} - {"advice"}
+    items = {item for _, wanted, *_ in ROWS for item, *_ in wanted}
     untried = sorted(set(track_checks.ITEMS) - items)
     cases = sum(path.read_text().count("test_case:") for path in (TOP / "suites").glob("*case.yaml"))
     print(f"tests/suites/lint_rows.py: {len(ROWS)} tracks with a fault and mended, of {len(items)} items; untried items: {untried}; "

@@ -1,5 +1,5 @@
 -- The command line of `etcs_lab`: the command as `clap` reads it, and what its arguments ask for (this project's profile).
-use Rattle.std.specs.Prelude.{ℕ, Bool, true, false, Option, Some, None, option_map, option_and_then, List, if◌then◌else◌, codes, map, pos}
+use Rattle.std.specs.Prelude.{ℕ, Bool, true, Option, Some, None, option_map, option_and_then, List, if◌then◌else◌, codes, map, pos}
 use Rattle.std.specs.Str.{bytes_eq}
 use Rattle.clap.specs.Words.{App, Row, Rule, Text, fault_of, first_of, new_app, new_rule, subcommand_of, with_rule, with_subcommand}
 use Rattle.clap.specs.declared.builder.action.ArgAction.TheVariants.{Append, SetTrue}
@@ -17,9 +17,6 @@ slots = record (new_rule (codes "slots")) { long = Some (codes "slots"); value_n
 
 abbrev pub event : Rule
 event = record (new_rule (codes "EVENT")) { parser = Some (vp.Unsigned 0 most_u64) }
-
-abbrev pub file : Rule
-file = new_rule (codes "FILE")
 
 -- files, any number of them
 abbrev pub files : Rule
@@ -44,9 +41,6 @@ why_app = with_rule (with_rule (image_app (codes "why") (codes "json")) event) (
 abbrev pub value_app : Text → Text → App
 value_app name value = with_rule (with_rule (new_app name) (flag (codes "json"))) (required value)
 
-abbrev pub telegram_app : App
-telegram_app = with_rule (with_rule (new_app (codes "telegram")) (flag (codes "schema"))) file
-
 abbrev pub run_app : App
 run_app = with_rule (new_app (codes "run")) (required (codes "SCENARIO"))
 
@@ -70,8 +64,8 @@ images_app = with_subcommand (with_subcommand (with_subcommand (with_subcommand 
     (image_app (codes "events") (codes "all")).top) (image_app (codes "replay") (codes "json")).top) (image_app (codes "check") (codes "json")).top) why_app.top
 
 abbrev pub lab_app : App
-lab_app = with_subcommand (with_subcommand (with_subcommand (with_subcommand (with_subcommand (with_subcommand images_app (value_app (codes "decode") (codes "HEX")).top)
-    (value_app (codes "packets") (codes "HEX")).top) telegram_app.top) (value_app (codes "lint") (codes "SCENARIO")).top) run_app.top) play_app.top
+lab_app = with_subcommand (with_subcommand (with_subcommand (with_subcommand images_app (value_app (codes "decode") (codes "HEX")).top)
+    (value_app (codes "packets") (codes "HEX")).top) run_app.top) play_app.top
 
 -- an image, and as one of how many slots it is read
 abbrev pub ImageValues : Type 0
@@ -86,9 +80,6 @@ pub data LabValues : Type 0 where
   why : ImageValues → Option ℕ → Bool → Bool → LabValues
   decode : Text → Bool → LabValues
   packets : Text → Bool → LabValues
-  telegram : Text → LabValues
-  schema : LabValues
-  lint : Text → Bool → LabValues
   run : Text → LabValues
   play : List Text → Option ℕ → Option Text → Option Text → LabValues
 
@@ -103,9 +94,6 @@ values_of (command.Check image json) = check (image_values_of image) json
 values_of (command.Why image event known json) = why (image_values_of image) event known json
 values_of (command.Decode hex json) = decode hex.now json
 values_of (command.Packets hex json) = packets hex.now json
-values_of (command.Telegram file) = telegram file.now
-values_of command.Schema = schema
-values_of (command.Lint scenario json) = lint scenario.now json
 values_of (command.Run scenario) = run scenario.now
 values_of (command.Play files slots outputs folder) = play (map (λ s. s.now) files.items) slots (option_map (λ s. s.now) outputs) (option_map (λ s. s.now) folder)
 
@@ -124,15 +112,6 @@ abbrev pub why_values : List Row → Option LabValues
 why_values rows = option_and_then (λ image. option_map (λ event. why image event (is_set (codes "known") rows) (is_set (codes "json") rows)) (optional_number most_u64 (first_of (codes "EVENT") rows)))
     (image_values rows)
 
--- exactly one of the two is given
-abbrev pub telegram_of : Option Text → Bool → Option LabValues
-telegram_of (Some file) false = Some (telegram file)
-telegram_of None true = Some schema
-telegram_of _ _ = None
-
-abbrev pub telegram_values : List Row → Option LabValues
-telegram_values rows = telegram_of (first_of (codes "FILE") rows) (is_set (codes "schema") rows)
-
 -- a command with one value, and --json
 abbrev pub value_values : (Text → Bool → LabValues) → Text → List Row → Option LabValues
 value_values make id rows = option_map (λ value. make value (is_set (codes "json") rows)) (first_of id rows)
@@ -147,9 +126,7 @@ play_values rows = play_over (all_values (codes "FILE") rows) rows
 abbrev pub single_values : Text → List Row → Option LabValues
 single_values name rows = if bytes_eq name (codes "decode") then value_values decode (codes "HEX") rows
     else (if bytes_eq name (codes "packets") then value_values packets (codes "HEX") rows
-    else (if bytes_eq name (codes "telegram") then telegram_values rows
-    else (if bytes_eq name (codes "lint") then value_values lint (codes "SCENARIO") rows
-    else (if bytes_eq name (codes "run") then option_map run (first_of (codes "SCENARIO") rows) else None))))
+    else (if bytes_eq name (codes "run") then option_map run (first_of (codes "SCENARIO") rows) else None))
 
 -- a command that reads an image, with its flag
 abbrev pub flagged_values : (ImageValues → Bool → LabValues) → Text → List Row → Option LabValues
@@ -165,6 +142,6 @@ named_values name rows = if bytes_eq name (codes "examine") then flagged_values 
 abbrev pub matched_values : Option (Text × List Row) → Option LabValues
 matched_values = option_and_then (λ found. if bytes_eq found.0 (codes "play") then play_values found.1 else named_values found.0 found.1)
 
--- what the arguments ask for: something where the parser finds no fault in them, and `telegram` has exactly one input
+-- what the arguments ask for: something where the parser finds no fault in them
 unfoldable pub lab_values : List Text → Option LabValues
 lab_values args = if has_no_fault (fault_of lab_app args) then matched_values (subcommand_of lab_app args) else None

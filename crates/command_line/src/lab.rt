@@ -2,7 +2,7 @@
 ghost use Rattle.std.specs.Prelude.{◌≡◌, ◌≢◌, IfErr, IfOk, None, Some, codes, map, option_map};
 ghost use Rattle.std.specs.String.{string_bytes};
 ghost use Rattle.clap.specs.Words.{FailsBy, fault_of, first_of, found_of, kind_of, rows_of, subcommand_of, subcommand_rows_of};
-ghost use Rattle.command_line.specs.LabArguments.{flagged_values, image_values, image_values_of, lab_values, matched_values, named_values, play_over, play_values, single_values, telegram_values, value_values, values_of, why_values};
+ghost use Rattle.command_line.specs.LabArguments.{flagged_values, image_values, image_values_of, lab_values, matched_values, named_values, play_over, play_values, single_values, value_values, values_of, why_values};
 ghost use Rattle.command_line.specs.LabArguments as spec;
 
 use crate::lab_app::lab_app;
@@ -62,17 +62,6 @@ pub enum LabCommand<'a> {
         hex: &'a str,
         is_json: bool,
     },
-    /// Encode the telegram of a file.
-    Telegram {
-        file: &'a str,
-    },
-    /// Print the JSON Schema of a telegram.
-    Schema,
-    /// List the findings in a scenario.
-    Lint {
-        scenario: &'a str,
-        is_json: bool,
-    },
     /// Run a scenario.
     Run {
         scenario: &'a str,
@@ -103,15 +92,6 @@ pub enum LabArgsError {
     #[error("{0}")]
     Refused(String),
 }
-
-// What `telegram` answers where it is given neither of its two inputs, or both.
-const NOT_ONE_TELEGRAM: &str = "\
-error: 'telegram' needs either FILE or '--schema'
-
-Usage: etcs_lab telegram [OPTIONS] [FILE]
-
-For more information, try '--help'.
-";
 
 // The image that the arguments name; None where its number of slots is no number.
 fn image_of<'a>(matches: &ArgMatches<'a>) -> Option<LabImage<'a>>
@@ -191,27 +171,6 @@ fn packets_command<'a>(matches: &ArgMatches<'a>) -> Option<LabCommand<'a>>
     Some(LabCommand::Packets { hex, is_json })
 }
 
-// Exactly one of the two is given.
-fn telegram_command<'a>(matches: &ArgMatches<'a>) -> Option<LabCommand<'a>>
-    ensures { option_map values_of result ≡ telegram_values (rows_of (found_of matches.now)) }
-{
-    let file = value_of(matches, "FILE");
-    let schema = is_set(matches, "schema");
-    match (file, schema) {
-        (Some(file), false) => Some(LabCommand::Telegram { file }),
-        (None, true) => Some(LabCommand::Schema),
-        _ => None,
-    }
-}
-
-fn lint_command<'a>(matches: &ArgMatches<'a>) -> Option<LabCommand<'a>>
-    ensures { option_map values_of result ≡ value_values spec.lint (codes "SCENARIO") (rows_of (found_of matches.now)) }
-{
-    let scenario = value_of(matches, "SCENARIO")?;
-    let is_json = is_set(matches, "json");
-    Some(LabCommand::Lint { scenario, is_json })
-}
-
 fn run_command<'a>(matches: &ArgMatches<'a>) -> Option<LabCommand<'a>>
     ensures { option_map values_of result ≡ option_map spec.run (first_of (codes "SCENARIO") (rows_of (found_of matches.now))) }
 {
@@ -255,10 +214,6 @@ fn single_command<'a>(name: &str, matches: &ArgMatches<'a>) -> Option<LabCommand
         decode_command(matches)
     } else if name == "packets" {
         packets_command(matches)
-    } else if name == "telegram" {
-        telegram_command(matches)
-    } else if name == "lint" {
-        lint_command(matches)
     } else if name == "run" {
         run_command(matches)
     } else {
@@ -319,13 +274,6 @@ fn answer_of(alloc: Global, error: &Error) -> LabArgsError
     }
 }
 
-fn not_one_telegram(alloc: Global) -> LabArgsError {
-    match format!(in alloc; "{NOT_ONE_TELEGRAM}") {
-        Ok(text) => LabArgsError::Refused(text),
-        Err(_) => LabArgsError::OutOfMemory,
-    }
-}
-
 /// Parses the arguments of `etcs_lab`, without the program's name.
 pub fn parse_lab<'a>(alloc: Global, args: &'a [String]) -> Result<LabCommand<'a>, LabArgsError>
     ensures ok { IfOk result (λ command. lab_values (map string_bytes args.now) ≡ Some (values_of command)) }
@@ -334,8 +282,8 @@ pub fn parse_lab<'a>(alloc: Global, args: &'a [String]) -> Result<LabCommand<'a>
     match lab_matches(alloc, args) {
         Ok(matches) => match matched_command(alloc, &matches) {
             Ok(Some(command)) => Ok(command),
-            // Every other value was checked by the parser.
-            Ok(None) => Err(not_one_telegram(alloc)),
+            // The parser has checked every value.
+            Ok(None) => Err(LabArgsError::Refused(String::new(alloc))),
             Err(_) => Err(LabArgsError::OutOfMemory),
         },
         Err(error) => Err(answer_of(alloc, &error)),

@@ -18,7 +18,7 @@ Exit status:
      valid, or a scenario that stops; or memory was refused or the output could not be written, as the message says
   2  wrong arguments
   3  a file or the device failed
-  4  something is lost, damaged, contradictory or different, or lint has findings; all that can be read was printed
+  4  something is lost, damaged, contradictory or different; all that can be read was printed
 
 Errors go to standard error. After `--` an argument may begin with `-`.
 An image is a file or a block device. It is opened read-only.
@@ -86,23 +86,6 @@ fn hex_arg<'a>(alloc: Global) -> Arg<'a>
     Arg::new(alloc, "HEX")
         .required(true)
         .help("Telegram in hexadecimal digits")
-}
-
-fn schema_arg<'a>(alloc: Global) -> Arg<'a>
-    ensures { IsArg (spec.flag (codes "schema")) result }
-{
-    Arg::new(alloc, "schema")
-        .long("schema")
-        .action(ArgAction::SetTrue)
-        .help("Print the JSON Schema of a telegram")
-}
-
-fn file_arg<'a>(alloc: Global) -> Arg<'a>
-    ensures { IsArg spec.file result }
-{
-    Arg::new(alloc, "FILE").help(
-        "Telegram in the JSON that `decode --json` prints; - is standard input",
-    )
 }
 
 fn scenario_arg<'a>(alloc: Global) -> Arg<'a>
@@ -226,26 +209,6 @@ fn packets_app<'a>(alloc: Global) -> Result<Command<'a>, AllocError>
     with_arg(first, hex_arg(alloc))
 }
 
-fn telegram_app<'a>(alloc: Global) -> Result<Command<'a>, AllocError>
-    ensures { IfOk result (IsApp spec.telegram_app) }
-{
-    let new = Command::new(alloc, "telegram").about(
-        "Encode a telegram from JSON into hexadecimal digits",
-    );
-    let first = with_arg(Ok(new), schema_arg(alloc));
-    with_arg(first, file_arg(alloc))
-}
-
-fn lint_app<'a>(alloc: Global) -> Result<Command<'a>, AllocError>
-    ensures { IfOk result (IsApp (spec.value_app (codes "lint") (codes "SCENARIO"))) }
-{
-    let new = Command::new(alloc, "lint").about(
-        "List the faults of a scenario, and what was probably not meant",
-    );
-    let first = with_arg(Ok(new), json_arg(alloc));
-    with_arg(first, scenario_arg(alloc))
-}
-
 fn run_app<'a>(alloc: Global) -> Result<Command<'a>, AllocError>
     ensures { IfOk result (IsApp spec.run_app) }
 {
@@ -290,7 +253,7 @@ fn bare_app<'a>(alloc: Global) -> Result<Command<'a>, AllocError>
     Command::new(alloc, "etcs_lab")
         .version(VERSION)
         .about(
-            "Examine the journal images of an onboard unit, and write and check its telegrams and scenarios",
+            "Examine the journal images of an onboard unit, decode its telegrams and run its scenarios",
         )
         .after_help(AFTER_HELP)
         .no_binary_name(true)
@@ -316,8 +279,6 @@ pub(crate) fn lab_app<'a>(alloc: Global) -> Result<Command<'a>, AllocError>
 {
     let first = with_subcommand(images_app(alloc), decode_app(alloc));
     let second = with_subcommand(first, packets_app(alloc));
-    let third = with_subcommand(second, telegram_app(alloc));
-    let fourth = with_subcommand(third, lint_app(alloc));
-    let fifth = with_subcommand(fourth, run_app(alloc));
-    with_subcommand(fifth, play_app(alloc))
+    let third = with_subcommand(second, run_app(alloc));
+    with_subcommand(third, play_app(alloc))
 }

@@ -1,10 +1,7 @@
 //! The image that a command reads.
-ghost use Rattle.std.specs.Prelude.{◌≤◌};
-ghost use Rattle.std.specs.Option.{ForSome};
-ghost use Rattle.blocks.specs.FirstSector.{least_slots, most_slots};
 
 use crate::digest::{facts_of, has_digest};
-use crate::given::GivenSlots;
+use crate::given::GivenFile;
 use crate::progress::Progress;
 use crate::status::{Status, fail, unread};
 use command_line::LabImage;
@@ -14,7 +11,7 @@ use std::fs::File;
 use std::rt::Files;
 
 /// The disk of an image.
-pub(crate) type ImageDisk = GivenSlots<FileDisk<ReadOnlyFile>>;
+pub(crate) type ImageDisk = FileDisk<GivenFile>;
 
 // The message about a file that another program changes while it is examined.
 const CHANGED: &str = "changed while it was being read; the result is not of one image";
@@ -36,22 +33,9 @@ fn file_of<R: Files<File = File> + Eprint>(rt: &R, path: &str) -> Result<ReadOnl
     ReadOnlyFile::open(rt, path).map_err(|error| fail(rt, sentence(error), path, Status::Device))
 }
 
-// The number of slots, where an image may have so many. The parser takes no other.
-fn within_limits(slots: Option<u32>) -> Option<u32>
-    ensures { ForSome result (λ n. (least_slots ≤ n) × (n ≤ most_slots)) }
-{
-    match slots {
-        Some(number) if 2 <= number && number <= 1_048_576 => Some(number),
-        _ => None,
-    }
-}
-
 // The disk over a file; else says that it can't be read.
 fn disk_over<R: Eprint>(rt: &R, file: ReadOnlyFile, image: LabImage) -> Result<ImageDisk, Status> {
-    match FileDisk::over(file) {
-        Ok(disk) => Ok(GivenSlots::over(disk, within_limits(image.slots))),
-        Err(_) => Err(unread(rt, image.path)),
-    }
+    FileDisk::over(GivenFile::over(file, image.slots)).map_err(|_| unread(rt, image.path))
 }
 
 /// Opens an image for reading alone; else says why not.
@@ -100,7 +84,7 @@ impl Image<'_> {
             return Ok(());
         };
         let progress = Progress::of(self.file.bytes, is_watched);
-        match has_digest(rt, self.disk.disk().file(), digest, progress) {
+        match has_digest(rt, &self.disk.file().file, digest, progress) {
             Ok(true) => Ok(()),
             Ok(false) => Err(fail(rt, CHANGED, self.path, Status::Device)),
             Err(_) => Err(unread(rt, self.path)),

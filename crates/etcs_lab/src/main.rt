@@ -2,17 +2,13 @@
 //! kernel answers so; and a laboratory what a telegram carries, and how one is written.
 #![tactic(auto)]
 
-mod checked;
 mod digest;
 mod event_lines;
 mod examined;
-mod findings;
 mod given;
 mod images;
-mod linted;
 mod program;
 mod progress;
-mod replayed;
 mod run;
 mod running;
 mod status;

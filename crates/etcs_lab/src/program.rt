@@ -1,21 +1,17 @@
 //! The command that the arguments name is executed.
 
-use crate::checked::checked;
 use crate::event_lines::events_reported;
-use crate::examined::examined;
-use crate::linted::linted;
-use crate::replayed::replayed;
+use crate::examined::{checked, examined, replayed};
 use crate::run::played;
 use crate::status::{Status, no_memory, refused_args, text_reported};
 use crate::why::why_reported;
 use command_line::{LabArgsError, LabCommand, parse_lab};
 use lab_play::{PlayArgs, play_scenarios};
-use lab_telegrams::{decode_reported, packets_reported, telegram_reported};
+use lab_telegrams::{decode_reported, packets_reported};
 use lab_why::Options;
 use std::fs::File;
 use std::io::Write;
 use std::rt::Files;
-use telegram_objects::SCHEMA;
 use text_output::Form;
 
 fn form_of(is_json: bool) -> Form {
@@ -49,9 +45,6 @@ fn execute<R: Files<File = File> + Input + AllocGlobal + Eprint, W: Write>(
         }
         LabCommand::Decode { hex, is_json } => decode_reported(rt, hex, is_json, out),
         LabCommand::Packets { hex, is_json } => packets_reported(rt, hex, form_of(is_json), out),
-        LabCommand::Telegram { file } => telegram_reported(rt, file, out),
-        LabCommand::Schema => text_reported(rt, SCHEMA, "--schema", out),
-        LabCommand::Lint { scenario, is_json } => linted(rt, scenario, form_of(is_json), out),
         LabCommand::Run { scenario } => played(rt, scenario, out),
         LabCommand::Play {
             files,

@@ -1,6 +1,7 @@
 //! The command `run`.
 
 use crate::status::{Status, no_memory, unread_for, unwritten};
+use lab_play::{FaultPlace, fault_place};
 use lab_why::{LateError, PlayedLife, play};
 use line_sinks::JsonLines;
 use simulator::{Scenario, ScenarioFault, ends_of, events_of};
@@ -17,14 +18,27 @@ fn life_of(alloc: Global, scenario: &Scenario) -> Result<PlayedLife, ScenarioFau
     Ok(PlayedLife { cold, steps, ends })
 }
 
-// Says the fault of a scenario, as `etcs run` does, or that memory is refused.
-fn refused<R: Eprint>(rt: &R, path: &str, fault: ScenarioFault) -> Status {
-    if let ScenarioFault::NoMemory = fault {
+// Says the fault of a scenario, as `etcs run` does, with its place; or that memory is refused.
+fn refused<R: AllocGlobal + Eprint>(
+    rt: &R,
+    path: &str,
+    scenario: &Scenario,
+    fault: ScenarioFault,
+) -> Status {
+    let place = match fault {
+        ScenarioFault::NoMemory => None,
+        _ => fault_place(rt.alloc(), scenario, fault),
+    };
+    let Some(place) = place else {
         return no_memory(rt, path);
+    };
+    let (number, name) = (fault.number(), path.escape_debug());
+    let wanted = place.wanted();
+    let _ = eprint!(rt; "etcs_lab: {name}: refused {number} {fault}");
+    if !matches!(place, FaultPlace::Text | FaultPlace::Whole) {
+        let _ = eprint!(rt; " at {place}");
     }
-    let number = fault.number();
-    let name = path.escape_debug();
-    let _ = eprintln!(rt; "etcs_lab: {name}: refused {number} {fault}");
+    let _ = eprintln!(rt; "; wanted: {wanted}");
     Status::Refused
 }
 
@@ -35,7 +49,8 @@ pub(crate) fn played<R: Files<File = File> + AllocGlobal + Eprint, W: Write>(
     out: &mut W,
 ) -> Result<Status, Status> {
     let bytes = fs::read(rt, path).map_err(|error| unread_for(rt, path, &error))?;
-    let life = life_of(rt.alloc(), &Scenario { bytes }).map_err(|fault| refused(rt, path, fault))?;
+    let scenario = Scenario { bytes };
+    let life = life_of(rt.alloc(), &scenario).map_err(|fault| refused(rt, path, &scenario, fault))?;
     match play(rt.alloc(), &life, &mut JsonLines::new(rt.alloc(), out)) {
         Ok(None) => Ok(Status::Whole),
         Ok(Some(_)) => Ok(Status::Refused),

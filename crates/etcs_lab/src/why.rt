@@ -1,7 +1,7 @@
 //! The command `why`.
 
+use crate::examined::stopped;
 use crate::images::opened;
-use crate::replayed::stopped;
 use crate::status::{Status, fail};
 use command_line::LabImage;
 use disk::Disk;

@@ -1,6 +1,4 @@
 //! A demand, as a line of a listing reports it (`docs/reference/json.md`).
-ghost use Rattle.std.specs.Prelude.{◌≡◌};
-ghost use Rattle.lab_demands.specs.Lines.{counts, demand_line, is_only_for, packet_of};
 
 use crate::naming::{write_action, write_direction, write_finding, write_section, write_sureness};
 use line_sinks::write_mode;
@@ -34,47 +32,30 @@ pub struct DemandLine {
     pub sureness: Sureness,
 }
 
-// Whether a packet is valid in this direction alone.
-fn is_only_for(direction: LinkOrientation, valid: Option<ValidityDirection>) -> bool
-    ensures { result ≡ is_only_for direction valid }
-{
-    match (direction, valid) {
-        (LinkOrientation::Nominal, Some(ValidityDirection::Nominal)) => true,
-        (LinkOrientation::Reverse, Some(ValidityDirection::Reverse)) => true,
-        _ => false,
-    }
-}
-
 /// Whether a demand is among those of a direction alone; all are where none is named.
-pub(crate) fn counts(only: Option<LinkOrientation>, source: &Source) -> bool
-    ensures { result ≡ counts only source.now }
-{
+pub(crate) fn counts(only: Option<LinkOrientation>, source: &Source) -> bool {
     match (only, source) {
         (None, _) => true,
-        (Some(direction), Source::Packet(place)) => is_only_for(direction, place.direction),
         (Some(_), Source::Refused(_)) => false,
-    }
-}
-
-fn packet_of(source: &Source) -> Option<u8>
-    ensures { result ≡ packet_of source.now }
-{
-    match source {
-        Source::Packet(place) => Some(place.number),
-        Source::Refused(_) => None,
+        (Some(direction), Source::Packet(place)) => matches!(
+            (direction, place.direction),
+            (LinkOrientation::Nominal, Some(ValidityDirection::Nominal))
+                | (LinkOrientation::Reverse, Some(ValidityDirection::Reverse))
+        ),
     }
 }
 
 /// The line of a demand.
-pub(crate) fn line_of(mode: Mode, only: Option<LinkOrientation>, demand: &Demand) -> DemandLine
-    ensures { result ≡ demand_line mode only demand.now }
-{
+pub(crate) fn line_of(mode: Mode, only: Option<LinkOrientation>, demand: &Demand) -> DemandLine {
     DemandLine {
         demanded: demand.action,
         only_in_direction: only,
         mode,
         finding: demand.finding,
-        packet: packet_of(&demand.source),
+        packet: match &demand.source {
+            Source::Packet(place) => Some(place.number),
+            Source::Refused(_) => None,
+        },
         section: demand.finding.section(),
         sureness: demand.finding.sureness(),
     }

@@ -1,12 +1,9 @@
 //! All demands of a telegram.
-ghost use Rattle.std.specs.Prelude.{◌≡◌, ◌++◌, IfOk, OnOk};
-ghost use Rattle.lab_demands.specs.Lines.{Adds, AreLines, lines_of};
 
 use crate::line::{DemandLine, counts, line_of};
-use line_sinks::Items;
 use mode_table::Mode;
 use std::alloc::{AllocError, Global};
-use track_guard::{Demand, Situation, demands};
+use track_guard::{Situation, demands};
 use vars::LinkOrientation;
 
 /// The train before the telegram.
@@ -18,53 +15,26 @@ pub struct Train {
     pub overridden: bool,
 }
 
-// Adds the demands of a direction alone, or all where none is named.
-fn add_lines(
-    mode: Mode,
-    only: Option<LinkOrientation>,
-    demands: &[Demand],
-    lines: &mut Items<DemandLine>,
-) -> Result<(), AllocError>
-    ensures { OnOk result (lines.new ≡ lines.old ++ lines_of mode only demands.now) }
-{
-    let Some((demand, others)) = demands.split_first() else {
-        return Ok(());
-    };
-    if counts(only, &demand.source) {
-        lines.push(line_of(mode, only, demand))?;
-    }
-    add_lines(mode, only, others, lines)
-}
-
-// Adds those that a telegram makes where its group is passed in a direction.
+// Adds those that a telegram makes where its group is passed in a direction; only those of one direction, where it is
+// named.
 fn add_in(
     bytes: &[u8],
     train: Train,
     direction: Option<LinkOrientation>,
     only: Option<LinkOrientation>,
-    lines: &mut Items<DemandLine>,
-) -> Result<(), AllocError>
-    ensures { OnOk result (Adds train bytes.now direction only lines.old lines.new) }
-{
+    lines: &mut Vec<DemandLine>,
+) -> Result<(), AllocError> {
     let situation = Situation {
         mode: train.mode,
         direction,
         overridden: train.overridden,
     };
-    let demands = demands(bytes, situation);
-    add_lines(train.mode, only, demands.as_slice(), lines)
-}
-
-// Adds those that are made in one direction alone.
-fn add_only(
-    bytes: &[u8],
-    train: Train,
-    direction: LinkOrientation,
-    lines: &mut Items<DemandLine>,
-) -> Result<(), AllocError>
-    ensures { OnOk result (Adds train bytes.now (Some direction) (Some direction) lines.old lines.new) }
-{
-    add_in(bytes, train, Some(direction), Some(direction), lines)
+    for demand in demands(bytes, situation).as_slice() {
+        if counts(only, &demand.source) {
+            lines.push(line_of(train.mode, only, demand))?;
+        }
+    }
+    Ok(())
 }
 
 /// What `track_guard` demands by a telegram whose group is passed in this direction: each demand, in their order. Where the
@@ -75,16 +45,12 @@ pub fn demand_lines(
     bytes: &[u8],
     train: Train,
     direction: Option<LinkOrientation>,
-) -> Result<Items<DemandLine>, AllocError>
-    ensures { IfOk result (λ lines. AreLines train bytes.now direction lines) }
-{
-    let mut lines = Items::new(alloc);
+) -> Result<Vec<DemandLine>, AllocError> {
+    let mut lines = Vec::new(alloc);
     add_in(bytes, train, direction, None, &mut lines)?;
-    match direction {
-        Some(_) => {}
-        None => {
-            add_only(bytes, train, LinkOrientation::Nominal, &mut lines)?;
-            add_only(bytes, train, LinkOrientation::Reverse, &mut lines)?;
+    if direction.is_none() {
+        for only in [LinkOrientation::Nominal, LinkOrientation::Reverse] {
+            add_in(bytes, train, Some(only), Some(only), &mut lines)?;
         }
     }
     Ok(lines)

@@ -1,4 +1,5 @@
 //! The names of values in JSON: those of `include/etcs_guard.h` (`docs/reference/json.md`).
+
 use serde::Serializer;
 use std::fmt;
 use track_guard::{Action, Finding, Section, Sureness};

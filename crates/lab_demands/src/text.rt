@@ -1,4 +1,5 @@
 //! A demand for people.
+
 use crate::line::DemandLine;
 use crate::naming::SectionText;
 use std::fmt;

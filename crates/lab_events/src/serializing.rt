@@ -1,4 +1,5 @@
 //! The names of values in JSON (`docs/reference/json.md`).
+
 use crate::names::cold_name;
 use crate::source::Source;
 use driver::{Acknowledged, Confirmed, DriverIdentity};

@@ -1,5 +1,4 @@
 //! The lines of an examination as one JSON object (`docs/reference/json.md`).
-ghost use Rattle.std.specs.Prelude.{⊤};
 
 use crate::line::ExamineLine;
 use line_sinks::LineSink;
@@ -69,8 +68,6 @@ impl<W> JsonExamination<W> {
 }
 
 impl<W: Write> LineSink<ExamineLine> for JsonExamination<W> {
-    ghost Takes = { λ _ _ _. ⊤ };
-
     fn take(&mut self, line: &ExamineLine) -> Result<(), LateError> {
         let Ok(text) = serde_json::to_vec(self.alloc, line) else {
             return Err(LateError::NoMemory);

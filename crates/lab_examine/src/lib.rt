@@ -10,7 +10,6 @@ mod json;
 mod line;
 mod names;
 mod opening;
-mod reporting;
 mod slots;
 mod text;
 

@@ -1,4 +1,5 @@
 //! The lines of an examination (`docs/reference/json.md`).
+
 mod between;
 mod image;
 mod opening;

@@ -1,4 +1,5 @@
 //! The lines for people.
+
 use crate::line::{
     BetweenLine, BlockFacts, ExamineLine, ImageLine, JournalObject, KeptObject, LostBlocks,
     OwnBlock, PowerUpLine, Refusal, SectorObject, SectorState, SlotContent, SlotLine,

@@ -3,6 +3,7 @@
 #![tactic(auto)]
 
 mod digits;
+mod faults;
 mod image_file;
 mod line_bytes;
 mod line_input;
@@ -14,4 +15,5 @@ mod result_line;
 mod scan;
 
 pub use digits::digits_of;
+pub use faults::{FaultPlace, fault_place};
 pub use play::{PlayArgs, play_scenarios};

@@ -1,5 +1,6 @@
 //! Plays the scenarios of a line, and prints its line.
 
+use crate::faults::fault_place;
 use crate::image_file::write_image;
 use crate::lives_list::scenarios_of;
 use crate::request::{LineFault, Request};
@@ -9,8 +10,6 @@ use crate::result_line::{
 };
 use command_line::lab_status::{Status, reported};
 use disk::Memory;
-use json_values::Outline;
-use scenario_advice::faults_of;
 use scenario_player::{LiveError, PlayError, Played, calls_for, image_of, play, play_after};
 use serde_json::Value;
 use simulator::{Scenario, ScenarioFault, ends_of};
@@ -218,33 +217,19 @@ impl<'a> Player<'a> {
         rt: &R,
         source: Source<'_>,
         scenario: &Scenario,
+        fault: ScenarioFault,
         out: &mut W,
     ) -> Result<(), Status> {
-        let Ok(outline) = Outline::of(rt.alloc(), scenario.bytes.as_slice()) else {
+        let place = match fault {
+            ScenarioFault::NoMemory => None,
+            _ => fault_place(rt.alloc(), scenario, fault),
+        };
+        let Some(place) = place else {
             return self.print_no_memory(rt, source.named, out);
         };
-        let Err(faults) = faults_of(rt.alloc(), scenario, &outline) else {
-            return self.print_no_memory(rt, source.named, out);
-        };
-        let first = faults.first;
-        if let ScenarioFault::NoMemory = first.fault {
-            return self.print_no_memory(rt, source.named, out);
-        }
         self.totals.count = self.totals.count.saturating_add(1);
         self.totals.all_done = false;
-        let (number, fault, wanted) = (first.fault.number(), first.fault, first.wanted);
-        let (before, pointer) = (source.pointer, outline.pointer(first.place));
-        reported(rt, self.path, write_refused(source.named, out))?;
-        let begun = match source.element {
-            Some(element) => write!(out, ",\"pointer\":\"{before}/{element}"),
-            None => write!(out, ",\"pointer\":\"{before}"),
-        };
-        reported(rt, self.path, begun)?;
-        let written = writeln!(
-            out,
-            "{pointer}\",\"fault\":{number},\"name\":\"{fault}\",\"wanted\":\"{wanted}\"}}"
-        );
-        reported(rt, self.path, written)
+        reported(rt, self.path, write_refused(source, place, fault, out))
     }
 
     /// Prints the line of a line that has a fault.
@@ -298,7 +283,9 @@ impl<'a> Player<'a> {
                 )?;
             }
             Err(PlayError::Scenario(_)) if source.is_likely => return Ok(false),
-            Err(PlayError::Scenario(_)) => self.print_fault(rt, source, scenario, out)?,
+            Err(PlayError::Scenario(fault)) => {
+                self.print_fault(rt, source, scenario, fault, out)?;
+            }
             Err(_) => self.print_no_memory(rt, source.named, out)?,
         }
         Ok(true)
@@ -327,12 +314,12 @@ impl<'a> Player<'a> {
             match calls_for(rt.alloc(), scenario, self.slots_of(request)) {
                 Ok(more) => calls = calls.saturating_add(more),
                 Err(PlayError::Scenario(_)) if source.is_likely => return Ok(false),
-                Err(PlayError::Scenario(_)) => {
+                Err(PlayError::Scenario(fault)) => {
                     let source = Source {
                         element: Some(element),
                         ..source
                     };
-                    self.print_fault(rt, source, scenario, out)?;
+                    self.print_fault(rt, source, scenario, fault, out)?;
                     return Ok(true);
                 }
                 Err(_) => {

@@ -1,6 +1,8 @@
 //! The lines that `play` prints.
 
 use crate::digits::digits_of;
+use crate::faults::FaultPlace;
+use crate::player::Source;
 use crate::request::LineFault;
 use events::{Brake, Indications, Output};
 use line_sinks::named_indications;
@@ -9,6 +11,7 @@ use scenario_player::{LiveError, Played, Released};
 use serde_json::Value;
 use sessions::of_stop;
 use sha2::{Digest, Sha256};
+use simulator::ScenarioFault;
 use std::io;
 use std::io::Write;
 use text_output::{Form, Piece, are_same, brake_name, known, mode_name, write_pieces};
@@ -363,7 +366,21 @@ pub(crate) fn write_unplayed<W: Write>(
     writeln!(out, ",\"name\":\"{name}\"}}")
 }
 
-/// Begins the line of a scenario that has a fault.
-pub(crate) fn write_refused<W: Write>(named: Named<'_>, out: &mut W) -> io::Result<()> {
-    write_front(named, "refused", out)
+/// Prints the line of a scenario that has a fault at this place.
+pub(crate) fn write_refused<W: Write>(
+    source: Source<'_>,
+    place: FaultPlace,
+    fault: ScenarioFault,
+    out: &mut W,
+) -> io::Result<()> {
+    write_front(source.named, "refused", out)?;
+    write!(out, ",\"pointer\":\"{}", source.pointer)?;
+    if let Some(element) = source.element {
+        write!(out, "/{element}")?;
+    }
+    let (number, wanted) = (fault.number(), place.wanted());
+    writeln!(
+        out,
+        "{place}\",\"fault\":{number},\"name\":\"{fault}\",\"wanted\":\"{wanted}\"}}"
+    )
 }

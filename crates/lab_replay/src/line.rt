@@ -1,6 +1,4 @@
 //! The lines of a replay (`docs/reference/json.md`).
-ghost use Rattle.std.specs.Prelude.{◌≡◌};
-ghost use Rattle.lab_replay.specs.Lines.{answer_of, stretch_line, record_line, head_line};
 
 use crate::serializing::{write_kept, write_kept_field, write_reason, write_record_field};
 use blocks::{Block, BlockRecord};
@@ -157,9 +155,7 @@ pub enum ReplayLine {
 }
 
 /// The line of events that agree, or aren't replayed.
-pub(crate) fn stretch_line(judged: &Judged, stretch: Stretch) -> ReplayLine
-    ensures { result ≡ stretch_line judged.now stretch }
-{
+pub(crate) fn stretch_line(judged: &Judged, stretch: Stretch) -> ReplayLine {
     let (replay, reason) = match judged {
         Judged::Agrees(_) => (Verdict::Agrees, None),
         Judged::Unknown(why) => (Verdict::NotReplayed, Some(Reason::of(*why))),
@@ -175,9 +171,7 @@ pub(crate) fn stretch_line(judged: &Judged, stretch: Stretch) -> ReplayLine
 }
 
 // The answer that a record holds.
-fn answer_of(record: &BlockRecord) -> Answer
-    ensures { result ≡ answer_of record.now }
-{
+fn answer_of(record: &BlockRecord) -> Answer {
     let (place_cm, uncertainty_cm, limit_m_per_h) = match record.situation {
         Some(at) => (
             Some(at.estimate.get()),
@@ -200,9 +194,12 @@ fn answer_of(record: &BlockRecord) -> Answer
 }
 
 /// The line of a record of this life and block that differs.
-pub(crate) fn record_line(life: u32, block: u64, record: &BlockRecord, found: &Found) -> ReplayLine
-    ensures { result ≡ record_line life block record.now found.now }
-{
+pub(crate) fn record_line(
+    life: u32,
+    block: u64,
+    record: &BlockRecord,
+    found: &Found,
+) -> ReplayLine {
     ReplayLine::Record(RecordLine {
         life,
         block,
@@ -215,9 +212,7 @@ pub(crate) fn record_line(life: u32, block: u64, record: &BlockRecord, found: &F
 }
 
 /// The line of a block's head that differs.
-pub(crate) fn head_line(block: &Block, found: &HeadFound) -> ReplayLine
-    ensures { result ≡ head_line block.now found.now }
-{
+pub(crate) fn head_line(block: &Block, found: &HeadFound) -> ReplayLine {
     ReplayLine::Head(HeadLine {
         life: block.kept.lives,
         block: block.number,

@@ -1,4 +1,5 @@
 //! The lines for people.
+
 use crate::line::{HeadLine, Outcome, RecordLine, ReplayLine, StretchLine};
 use crate::serializing::{KeptObject, kept_field_name, record_field_name};
 use lab_events::Reason;

@@ -1,57 +1,13 @@
-//! The commands `telegram` and `decode`.
+//! The command `decode`.
 
-use command_line::lab_status::{Status, fail, no_memory, reported, unread_for, unwritten};
+use command_line::lab_status::{Status, fail, no_memory, unwritten};
 use decoding::decode_text;
 use hex::FromHexError;
 use line_sinks::{JsonLines, LineSink};
 use lives::LateError;
 use std::alloc::Global;
-use std::fs::File;
-use std::io::{Read, Write};
-use std::rt::Files;
-use std::{fs, io};
-use telegram_objects::{Decoded, HexText, ObjectFault, Reason, bytes_of_text, decoded_of};
-
-// The bytes of a file, or of standard input.
-fn bytes_in<R: Files<File = File> + Input + AllocGlobal>(
-    rt: &R,
-    path: &str,
-) -> io::Result<Vec<u8>> {
-    if path != "-" {
-        return fs::read(rt, path);
-    }
-    let mut bytes = Vec::new(rt.alloc());
-    rt.reader().read_to_end(&mut bytes)?;
-    Ok(bytes)
-}
-
-fn write_hex<W: Write>(bytes: &[u8], out: &mut W) -> io::Result<()> {
-    writeln!(out, "{}", HexText::upper(bytes))
-}
-
-// Says at which place a telegram has a fault.
-fn refused<R: Eprint>(rt: &R, path: &str, fault: &ObjectFault) -> Status {
-    if let Reason::NoMemory = fault.reason {
-        return no_memory(rt, path);
-    }
-    let name = path.escape_debug();
-    let _ = eprintln!(rt; "etcs_lab: {name}: {fault}");
-    Status::Refused
-}
-
-/// Writes the digits of the telegram that a file reports, and answers the status.
-pub fn telegram_reported<R: Files<File = File> + Input + AllocGlobal + Eprint, W: Write>(
-    rt: &R,
-    path: &str,
-    out: &mut W,
-) -> Result<Status, Status> {
-    let text = bytes_in(rt, path).map_err(|error| unread_for(rt, path, &error))?;
-    let bytes = bytes_of_text(rt.alloc(), text.as_slice()).map_err(|fault| refused(
-        rt, path, &fault,
-    ))?;
-    reported(rt, path, write_hex(bytes.as_slice(), out))?;
-    Ok(Status::Whole)
-}
+use std::io::Write;
+use telegram_objects::{Decoded, decoded_of};
 
 /// The bytes of digits; else says why they are none.
 pub(crate) fn bytes_of<R: AllocGlobal + Eprint>(rt: &R, digits: &str) -> Result<Vec<u8>, Status> {

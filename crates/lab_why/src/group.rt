@@ -1,14 +1,9 @@
 //! The balise groups that an event closed, with their packets.
-ghost use Rattle.std.specs.Prelude.{◌≡◌, ◌++◌, map, IfOk, OnOk};
-ghost use Rattle.packet_uses.specs.declared.fate.Fate.{Fate as a_fate};
-ghost use Rattle.track_picture.specs.Closings.{all_of, listed};
-ghost use Rattle.lab_why.specs.Groups.{unused_as, packet_line, packets_of, group_line, group_lines};
 
 use crate::serializing::{
     write_direction, write_group_section, write_outcome, write_packet_name, write_reaction,
 };
-use balise_groups::GroupPackets;
-use line_sinks::{Items, write_mode};
+use line_sinks::write_mode;
 use mode_table::Mode;
 use packet_uses::{Fate, fate_of};
 use packets::Packet;
@@ -73,12 +68,10 @@ pub struct GroupLine {
     #[serde(serialize_with = "write_group_section")]
     pub section: GroupKind,
     /// The packets of its message, in their order; none of a broken group.
-    pub packets: Items<PacketLine>,
+    pub packets: Vec<PacketLine>,
 }
 
-fn unused_as(accepted: bool, fate: Fate) -> Option<Unused>
-    ensures { result ≡ unused_as accepted fate }
-{
+fn unused_as(accepted: bool, fate: Fate) -> Option<Unused> {
     match fate {
         _ if !accepted => Some(Unused::GroupNotAccepted),
         Fate::Used => None,
@@ -91,9 +84,7 @@ fn unused_as(accepted: bool, fate: Fate) -> Option<Unused>
 }
 
 // A packet of a group that was judged in a mode.
-fn packet_line(mode: Mode, reported: &GroupReport, packet: &Packet<'_>) -> PacketLine
-    ensures { result ≡ packet_line mode reported.now packet.now }
-{
+fn packet_line(mode: Mode, reported: &GroupReport, packet: &Packet<'_>) -> PacketLine {
     let number = packet.number().get();
     let fate = fate_of(packet, mode, reported.direction, false);
     PacketLine {
@@ -103,39 +94,23 @@ fn packet_line(mode: Mode, reported: &GroupReport, packet: &Packet<'_>) -> Packe
     }
 }
 
-fn packet_lines(
-    alloc: Global,
-    mode: Mode,
-    reported: &GroupReport,
-    packets: &GroupPackets,
-) -> Result<Items<PacketLine>, AllocError>
-    ensures { IfOk result (λ lines. lines ≡ map (packet_line mode reported.now) packets.now) }
-{
-    let mut lines = Items::new(alloc);
-    for item in packets.iter() {
-        lines.push(packet_line(mode, reported, item.packet()))?;
-    }
-    Ok(lines)
-}
-
 // The packets of the message of a group; a broken one has none.
 fn packets_in(
     alloc: Global,
     mode: Mode,
     reported: &GroupReport,
     closing: &Closing,
-) -> Result<Items<PacketLine>, AllocError>
-    ensures { IfOk result (λ lines. lines ≡ map (packet_line mode reported.now) (packets_of closing.now)) }
-{
-    match closing {
-        Closing::Whole(message, _) => packet_lines(alloc, mode, reported, &message.packets),
-        Closing::Broken(_, _) => Ok(Items::new(alloc)),
+) -> Result<Vec<PacketLine>, AllocError> {
+    let mut lines = Vec::new(alloc);
+    if let Closing::Whole(message, _) = closing {
+        for item in message.packets.iter() {
+            lines.push(packet_line(mode, reported, item.packet()))?;
+        }
     }
+    Ok(lines)
 }
 
-fn group_line(alloc: Global, mode: Mode, closing: &Closing) -> Result<GroupLine, AllocError>
-    ensures { IfOk result (λ line. line ≡ group_line mode closing.now) }
-{
+fn group_line(alloc: Global, mode: Mode, closing: &Closing) -> Result<GroupLine, AllocError> {
     let reported = group_reported(closing);
     let packets = packets_in(alloc, mode, &reported, closing)?;
     Ok(GroupLine {
@@ -151,30 +126,17 @@ fn group_line(alloc: Global, mode: Mode, closing: &Closing) -> Result<GroupLine,
     })
 }
 
-// Adds a group, if there is one.
-fn add_group(
-    alloc: Global,
-    mode: Mode,
-    closing: &Option<Closing>,
-    lines: &mut Items<GroupLine>,
-) -> Result<(), AllocError>
-    ensures { OnOk result (lines.new ≡ lines.old ++ group_lines mode (listed closing.now)) }
-{
-    match closing {
-        Some(closing) => lines.push(group_line(alloc, mode, closing)?),
-        None => Ok(()),
-    }
-}
-
 /// The groups that an event closed, in their order. The error is that of memory.
 pub(crate) fn group_lines(
     alloc: Global,
     reported: &GroupsReport,
-) -> Result<Items<GroupLine>, AllocError>
-    ensures { IfOk result (λ lines. lines ≡ group_lines reported.now.mode (all_of reported.now.closings)) }
-{
-    let mut lines = Items::new(alloc);
-    add_group(alloc, reported.mode, &reported.closings.ended, &mut lines)?;
-    add_group(alloc, reported.mode, &reported.closings.whole, &mut lines)?;
+) -> Result<Vec<GroupLine>, AllocError> {
+    let mut lines = Vec::new(alloc);
+    let closings = &reported.closings;
+    for closing in [&closings.ended, &closings.whole] {
+        if let Some(closing) = closing {
+            lines.push(group_line(alloc, reported.mode, closing)?)?;
+        }
+    }
     Ok(lines)
 }

@@ -1,14 +1,4 @@
 //! What the kernel knows of the train and the track after an event (`docs/reference/json.md`).
-ghost use Rattle.std.specs.Prelude.{◌≡◌, List, IfOk};
-ghost use Rattle.authority.specs.Authority.{end_of, main_speed_of};
-ghost use Rattle.authority.specs.Entries.{AuthorityEntry};
-ghost use Rattle.authority.specs.Known.{known as known_authority};
-ghost use Rattle.kernel.specs.Lives.{Story, past_at};
-ghost use Rattle.kernel.specs.StandsFor.{StandsForLife};
-ghost use Rattle.mode_control.specs.Life.{Life};
-ghost use Rattle.track_picture.specs.Stores.{segment_stores};
-ghost use Rattle.reasons.specs.Reported.{Reasons};
-ghost use Rattle.lab_why.specs.Known.{authority_line, front_line, group_name, known_if, known_line, level_line, release_of, train_line};
 
 use crate::known_lists::{
     AreaLine, LinkLine, RestrictionLine, area_lines, countries_of, link_lines, optional_cm,
@@ -18,7 +8,7 @@ use areas::AnnouncedLevel;
 use authority::{Authority, Release};
 use driver::{Datum, TrainData};
 use kernel::State;
-use line_sinks::{Items, NationalObject, Status, TrainObject, write_level};
+use line_sinks::{NationalObject, Status, TrainObject, write_level};
 use mode_table::TrainLevel;
 use odometry::Place;
 use reasons::Reasoning;
@@ -95,7 +85,7 @@ pub struct KnownLine {
     /// The group that is being read; None where none is.
     pub group_being_read: Option<GroupName>,
     /// The announced groups that are left, in the order of their list.
-    pub links: Items<LinkLine>,
+    pub links: Vec<LinkLine>,
     /// Whether a group was missed since the last that was accepted as announced.
     pub has_missed: bool,
     /// Whether nothing that is known has a place, so that a group that isn't announced makes a fix too.
@@ -103,36 +93,30 @@ pub struct KnownLine {
     /// The movement authority; None where none is stored.
     pub authority: Option<AuthorityLine>,
     /// The mode areas, in the order of their packet.
-    pub areas: Items<AreaLine>,
+    pub areas: Vec<AreaLine>,
     /// The announced level; None where none is.
     pub announced_level: Option<LevelLine>,
     /// The restrictions in force.
-    pub restrictions: Items<RestrictionLine>,
+    pub restrictions: Vec<RestrictionLine>,
     /// The national values in force.
     pub national_values: NationalObject,
     /// The countries NID_C that these are for.
-    pub countries: Items<u64>,
+    pub countries: Vec<u64>,
     /// Where the announced national values come into force, in centimetres; None where none are announced.
     pub announced_values_cm: Option<i64>,
     /// The train data; None where none were entered.
     pub train: Option<TrainLine>,
 }
 
-fn group_name(group: Option<GroupIdentity>) -> Option<GroupName>
-    ensures { result ≡ group_name group }
-{
-    match group {
-        None => None,
-        Some(group) => Some(GroupName {
-            country: group.country.number(),
-            group: group.number.number(),
-        }),
-    }
+fn group_name(group: Option<GroupIdentity>) -> Option<GroupName> {
+    let group = group?;
+    Some(GroupName {
+        country: group.country.number(),
+        group: group.number.number(),
+    })
 }
 
-fn front_line(place: &Place) -> FrontLine
-    ensures { result ≡ front_line place.now }
-{
+fn front_line(place: &Place) -> FrontLine {
     FrontLine {
         place_cm: place.estimate().get(),
         uncertainty_cm: place.uncertainty().get(),
@@ -140,19 +124,14 @@ fn front_line(place: &Place) -> FrontLine
     }
 }
 
-fn release_of(release: Release) -> Option<u32>
-    ensures { result ≡ release_of release }
-{
+fn release_of(release: Release) -> Option<u32> {
     match release {
         Release::Speed(speed) => Some(speed.get()),
         Release::National => None,
     }
 }
 
-fn authority_line(authority: &Authority) -> Option<AuthorityLine>
-    ensures { (entries : List AuthorityEntry) → authority.now ≡ known_authority entries
-        → result ≡ authority_line (end_of entries) (main_speed_of entries) }
-{
+fn authority_line(authority: &Authority) -> Option<AuthorityLine> {
     match (authority.end(), authority.main_speed()) {
         (Some(end), Some(main_speed)) => Some(AuthorityLine {
             end_cm: end.place.get(),
@@ -165,9 +144,7 @@ fn authority_line(authority: &Authority) -> Option<AuthorityLine>
     }
 }
 
-fn level_line(level: AnnouncedLevel) -> Option<LevelLine>
-    ensures { result ≡ level_line level }
-{
+fn level_line(level: AnnouncedLevel) -> Option<LevelLine> {
     let announced = level.announced()?;
     Some(LevelLine {
         level: Some(announced.level),
@@ -176,9 +153,7 @@ fn level_line(level: AnnouncedLevel) -> Option<LevelLine>
     })
 }
 
-fn train_line(train: Datum<TrainData>) -> Option<TrainLine>
-    ensures { result ≡ train_line train }
-{
+fn train_line(train: Datum<TrainData>) -> Option<TrainLine> {
     let (train, status) = match train {
         Datum::Unknown => return None,
         Datum::Valid(train) => (train, Status::Valid),
@@ -191,9 +166,7 @@ fn train_line(train: Datum<TrainData>) -> Option<TrainLine>
 }
 
 // What is known in a life.
-fn known_line(alloc: Global, state: &State) -> Result<KnownLine, AllocError>
-    ensures { (life : Life) → StandsForLife segment_stores state.now life → IfOk result (λ line. line ≡ known_line life) }
-{
+fn known_line(alloc: Global, state: &State) -> Result<KnownLine, AllocError> {
     let track = state.track();
 
     // The lists come first: at each `?` few values are owned, so that the proof is short.
@@ -224,9 +197,7 @@ pub(crate) fn known_if(
     alloc: Global,
     is_requested: bool,
     life: &Reasoning,
-) -> Result<Option<KnownLine>, AllocError>
-    ensures { (story : Story) → Reasons story life.now → IfOk result (λ line. line ≡ known_if is_requested (past_at story).life) }
-{
+) -> Result<Option<KnownLine>, AllocError> {
     if !is_requested {
         return Ok(None);
     }

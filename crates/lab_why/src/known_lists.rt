@@ -1,10 +1,7 @@
 //! The lists of what the kernel knows: announced groups, mode areas, restrictions and countries.
-ghost use Rattle.std.specs.Prelude.{◌≡◌, map, IfOk};
-ghost use Rattle.lab_why.specs.Known.{area_line, area_speed, link_line, restriction_line};
 
 use crate::serializing::{write_area_mode, write_orientation, write_reaction};
 use areas::Area;
-use line_sinks::Items;
 use linking::Announcement;
 use restriction::Restriction;
 use serde::Serialize;
@@ -66,9 +63,7 @@ pub struct RestrictionLine {
     pub ends_for_front: bool,
 }
 
-fn link_line(announcement: &Announcement) -> LinkLine
-    ensures { result ≡ link_line announcement.now }
-{
+fn link_line(announcement: &Announcement) -> LinkLine {
     LinkLine {
         announcement: announcement.number,
         country: announcement.group.country.number(),
@@ -84,10 +79,8 @@ fn link_line(announcement: &Announcement) -> LinkLine
 pub(crate) fn link_lines(
     alloc: Global,
     announcements: &[Announcement],
-) -> Result<Items<LinkLine>, AllocError>
-    ensures { IfOk result (λ lines. lines ≡ map link_line announcements.now) }
-{
-    let mut lines = Items::new(alloc);
+) -> Result<Vec<LinkLine>, AllocError> {
+    let mut lines = Vec::new(alloc);
     for announcement in announcements {
         lines.push(link_line(announcement))?;
     }
@@ -95,27 +88,18 @@ pub(crate) fn link_lines(
 }
 
 /// A place in centimetres, if there is one.
-pub(crate) fn optional_cm(place: Option<Cm>) -> Option<i64>
-    ensures { result ≡ place }
-{
-    match place {
-        None => None,
-        Some(place) => Some(place.get()),
-    }
+pub(crate) fn optional_cm(place: Option<Cm>) -> Option<i64> {
+    place.map(|place| place.get())
 }
 
-fn area_speed(speed: AreaSpeed) -> Option<u32>
-    ensures { result ≡ area_speed speed }
-{
+fn area_speed(speed: AreaSpeed) -> Option<u32> {
     match speed {
         AreaSpeed::Speed(step) => Some(step.speed().get()),
         AreaSpeed::National => None,
     }
 }
 
-fn area_line(area: &Area) -> AreaLine
-    ensures { result ≡ area_line area.now }
-{
+fn area_line(area: &Area) -> AreaLine {
     AreaLine {
         area: area.mode,
         start_cm: area.start.get(),
@@ -126,19 +110,15 @@ fn area_line(area: &Area) -> AreaLine
 }
 
 /// The mode areas.
-pub(crate) fn area_lines(alloc: Global, areas: &[Area]) -> Result<Items<AreaLine>, AllocError>
-    ensures { IfOk result (λ lines. lines ≡ map area_line areas.now) }
-{
-    let mut lines = Items::new(alloc);
+pub(crate) fn area_lines(alloc: Global, areas: &[Area]) -> Result<Vec<AreaLine>, AllocError> {
+    let mut lines = Vec::new(alloc);
     for area in areas {
         lines.push(area_line(area))?;
     }
     Ok(lines)
 }
 
-fn restriction_line(restriction: &Restriction) -> RestrictionLine
-    ensures { result ≡ restriction_line restriction.now }
-{
+fn restriction_line(restriction: &Restriction) -> RestrictionLine {
     RestrictionLine {
         number: restriction.number.number(),
         start_cm: restriction.start.get(),
@@ -152,10 +132,8 @@ fn restriction_line(restriction: &Restriction) -> RestrictionLine
 pub(crate) fn restriction_lines(
     alloc: Global,
     restrictions: &[Restriction],
-) -> Result<Items<RestrictionLine>, AllocError>
-    ensures { IfOk result (λ lines. lines ≡ map restriction_line restrictions.now) }
-{
-    let mut lines = Items::new(alloc);
+) -> Result<Vec<RestrictionLine>, AllocError> {
+    let mut lines = Vec::new(alloc);
     for restriction in restrictions {
         lines.push(restriction_line(restriction))?;
     }
@@ -163,10 +141,8 @@ pub(crate) fn restriction_lines(
 }
 
 /// The numbers of countries.
-pub(crate) fn countries_of(alloc: Global, countries: &[Country]) -> Result<Items<u64>, AllocError>
-    ensures { IfOk result (λ numbers. numbers ≡ countries.now) }
-{
-    let mut numbers = Items::new(alloc);
+pub(crate) fn countries_of(alloc: Global, countries: &[Country]) -> Result<Vec<u64>, AllocError> {
+    let mut numbers = Vec::new(alloc);
     for country in countries {
         numbers.push(country.number())?;
     }

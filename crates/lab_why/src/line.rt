@@ -1,8 +1,4 @@
 //! The lines that say why events were answered so (`docs/reference/json.md`).
-ghost use Rattle.std.specs.Prelude.{◌≡◌};
-ghost use Rattle.kernel.specs.Lives.{Story};
-ghost use Rattle.reasons.specs.Reported.{Reasons};
-ghost use Rattle.lab_why.specs.Lines.{answer_in, causes_of, event_line, left_out_line};
 
 use crate::course::Explanation;
 use crate::group::GroupLine;
@@ -15,7 +11,7 @@ use kernel::TripCause;
 use lab_demands::DemandLine;
 use lab_events::{Reason, Stretch};
 use lab_replay::{LostBlock, StretchLine, Verdict};
-use line_sinks::{Items, write_brake};
+use line_sinks::write_brake;
 use reasons::{LimitKind, LimitReport, Reasoning, Runs, TripReport};
 use serde::Serialize;
 
@@ -75,11 +71,11 @@ pub struct EventLine {
     #[serde(flatten)]
     pub causes: Causes,
     /// The balise groups that the event closed, in their order.
-    #[serde(skip_serializing_if = "Items::is_empty")]
-    pub groups: Items<GroupLine>,
+    #[serde(skip_serializing_if = "Vec::is_empty")]
+    pub groups: Vec<GroupLine>,
     /// What a guard next to the unit demands by the telegram of the event, in their order.
-    #[serde(skip_serializing_if = "Items::is_empty")]
-    pub demands: Items<DemandLine>,
+    #[serde(skip_serializing_if = "Vec::is_empty")]
+    pub demands: Vec<DemandLine>,
     /// What is known after the event, where that is asked for.
     #[serde(skip_serializing_if = "Option::is_none")]
     pub known: Option<KnownLine>,
@@ -98,9 +94,7 @@ pub enum WhyLine {
 }
 
 /// The answer to the last event of a life, of this number.
-pub(crate) fn answer_in(life: &Reasoning, event: u64, output: &Output) -> Answer
-    ensures { (story : Story) → Reasons story life.now → result ≡ answer_in story event output.now }
-{
+pub(crate) fn answer_in(life: &Reasoning, event: u64, output: &Output) -> Answer {
     let motion = life.state().motion();
     Answer {
         event,
@@ -113,9 +107,7 @@ pub(crate) fn answer_in(life: &Reasoning, event: u64, output: &Output) -> Answer
 }
 
 /// The causes of an answer.
-pub(crate) fn causes_of(runs: &Runs, trip: &Option<TripReport>, limit: &LimitReport) -> Causes
-    ensures { result ≡ causes_of runs.now trip.now limit.now }
-{
+pub(crate) fn causes_of(runs: &Runs, trip: &Option<TripReport>, limit: &LimitReport) -> Causes {
     let (trip_cause, trip_cause_event) = match trip {
         Some(trip) => (Some(trip.cause), Some(trip.event)),
         None => (None, None),
@@ -139,13 +131,10 @@ pub(crate) fn event_line(
     life: &Reasoning,
     event: u64,
     explanation: &Explanation,
-    groups: Items<GroupLine>,
-    demands: Items<DemandLine>,
+    groups: Vec<GroupLine>,
+    demands: Vec<DemandLine>,
     known: Option<KnownLine>,
-) -> WhyLine
-    ensures { (story : Story) → Reasons story life.now
-        → result ≡ event_line story event explanation.now groups demands known }
-{
+) -> WhyLine {
     let output = life.output();
     let answer = answer_in(life, event, &output);
     let causes = causes_of(&explanation.runs, &life.trip(), &explanation.decides);
@@ -159,9 +148,7 @@ pub(crate) fn event_line(
 }
 
 /// The line of events that can't be run again, with the reason.
-pub(crate) fn left_out_line(stretch: Stretch, reason: Reason) -> WhyLine
-    ensures { result ≡ left_out_line stretch reason }
-{
+pub(crate) fn left_out_line(stretch: Stretch, reason: Reason) -> WhyLine {
     WhyLine::LeftOut(StretchLine {
         life: stretch.life,
         first_event: stretch.first,

@@ -1,4 +1,5 @@
 //! The names of values in JSON (`docs/reference/json.md`).
+
 use kernel::{BrakeCause, TripCause};
 use lab_events::cold_name;
 use mode_table::Cold;

@@ -1,4 +1,5 @@
 //! The lines for people.
+
 use crate::group::{GroupLine, PacketLine, Unused};
 use crate::known::KnownLine;
 use crate::line::{Answer, Causes, EventLine, WhyLine};

@@ -1,34 +1,24 @@
 //! The steps of a walk, explained: a life is run again, and its events have their lines.
-ghost use Rattle.std.specs.Prelude.{◌≡◌, IfOk, OnOk};
-ghost use Rattle.kernel.specs.Lives.{Story};
-ghost use Rattle.reasons.specs.Reported.{Reasons};
-ghost use Rattle.lab_why.specs.Courses.{IsEventLine, Follows, Begins, Describes, RunsAndDescribes, initial_after, lost_line};
 
-use crate::course::{
-    Course, Explanation, begin_after, explanation_in, finish, has_line, leave_out, left_line,
-    pass_gap,
-};
+use crate::course::{Course, Explanation, explanation_in, has_line};
 use crate::demanding::demands_of;
 use crate::group::group_lines;
 use crate::known::known_if;
 use crate::line::{WhyLine, event_line};
 use blocks::{Block, BlockRecord};
 use events::{Event, Kept};
-use inquiry::Inquiry;
 use lab_replay::{LostBlock, Verdict};
-use lives::{Seen, Unknown};
+use line_sinks::LineSink;
+use lives::{LateError, Seen, Unknown, Visit};
 use reasons::Reasoning;
 use std::alloc::Global;
 use units::NoMemory;
 
 // Runs one event more of a life, where that is known.
-fn follow(alloc: Global, life: &mut Option<Reasoning>, event: &Event) -> Result<(), NoMemory>
-    ensures { OnOk result (Follows event.now life.old life.new) }
-{
-    let Some(life) = life else {
-        return Ok(());
-    };
-    life.follow(alloc, event)?;
+fn follow(alloc: Global, life: &mut Option<Reasoning>, event: &Event) -> Result<(), NoMemory> {
+    if let Some(life) = life {
+        life.follow(alloc, event)?;
+    }
     Ok(())
 }
 
@@ -38,114 +28,84 @@ fn begin(
     life: &mut Option<Reasoning>,
     before: &Result<Kept, Unknown>,
     event: &Event,
-) -> Result<(), NoMemory>
-    ensures { OnOk result (Begins before.now event.now life.old life.new) }
-{
+) -> Result<(), NoMemory> {
     match (before, event) {
         (Ok(kept), Event::PowerUp(cold)) => {
             let (initial, _) = Reasoning::begin(alloc, kept, *cold);
             *life = Some(initial);
             Ok(())
         }
-        (Ok(_), Event::Input(_)) => follow(alloc, life, event),
-        (Err(_), _) => follow(alloc, life, event),
+        _ => follow(alloc, life, event),
     }
 }
 
-// The line of the last event of a life, if it has one, and how many events have had a line.
+// The line of the last event of a life, where it has one.
 fn line_of(
     alloc: Global,
     course: &Course,
     life: &Reasoning,
     entry: &BlockRecord,
     explanation: &Explanation,
-) -> Result<(Option<WhyLine>, u64), NoMemory>
-    ensures { (story : Story) → Reasons story life.now → IfOk result (λ found.
-        IsEventLine course.now.options story entry.now course.now.before explanation.now course.now.events found.1 found.0) }
-{
+) -> Result<Option<WhyLine>, NoMemory> {
     let (number, before) = (entry.number, &course.before);
     let closed = life.groups();
     let groups = group_lines(alloc, closed)?;
     let demands = demands_of(alloc, &entry.event, closed.mode, before, &groups)?;
-    if has_line(course.options, number, before, explanation, &demands) {
-        let known = known_if(alloc, course.options.known, life)?;
-        let line = event_line(life, number, explanation, groups, demands, known);
-        return Ok((Some(line), course.events.saturating_add(1)));
+    if !has_line(course.options, number, before, explanation, &demands) {
+        return Ok(None);
     }
-    Ok((None, course.events))
+    let known = known_if(alloc, course.options.known, life)?;
+    let line = event_line(life, number, explanation, groups, demands, known);
+    Ok(Some(line))
 }
 
-// The line of an event that was run, if it has one, or else the event is left out.
-fn describe(
+// Hands on the line of an event that was run, where it has one; or else the event is left out.
+fn describe<S: LineSink<WhyLine>>(
     alloc: Global,
     course: &mut Course,
     seen: &Seen<'_>,
-) -> Result<Option<WhyLine>, NoMemory>
-    ensures { IfOk result (Describes course.old.life seen.now.life seen.now.entry.now course.old course.new) }
-{
+    sink: &mut S,
+) -> Result<(), LateError> {
     let Some(life) = &course.life else {
-        leave_out(course, seen.life, seen.entry.number);
-        return Ok(None);
+        course.leave_out(seen.life, seen.entry.number);
+        return Ok(());
     };
     let explanation = explanation_in(life);
-    let (line, events) = line_of(alloc, course, life, &seen.entry, &explanation)?;
+    let Ok(line) = line_of(alloc, course, life, seen.entry, &explanation) else {
+        return Err(LateError::NoMemory);
+    };
     course.before = Some(explanation);
-    course.events = events;
-    Ok(line)
-}
-
-// A life begins with a record: it is run, and described.
-fn begin_life(
-    alloc: Global,
-    course: &mut Course,
-    before: &Result<Kept, Unknown>,
-    seen: &Seen<'_>,
-) -> Result<Option<WhyLine>, NoMemory>
-    ensures { IfOk result (RunsAndDescribes (Begins before.now seen.now.entry.now.event) seen.now.life seen.now.entry.now
-        (initial_after before.now course.old.life course.old) course.new) }
-{
-    begin_after(course, before);
-    begin(alloc, &mut course.life, before, &seen.entry.event)?;
-    describe(alloc, course, seen)
-}
-
-// A life goes on with a record: it is run, and described.
-fn go_on(alloc: Global, course: &mut Course, seen: &Seen<'_>) -> Result<Option<WhyLine>, NoMemory>
-    ensures { IfOk result (RunsAndDescribes (Follows seen.now.entry.now.event) seen.now.life seen.now.entry.now course.old course.new) }
-{
-    follow(alloc, &mut course.life, &seen.entry.event)?;
-    describe(alloc, course, seen)
-}
-
-// The line of a block that can't be read; None where one event alone is asked for.
-fn lost_line(only: Option<u64>, number: u64) -> Option<WhyLine>
-    ensures { result ≡ lost_line only number }
-{
-    match only {
-        Some(_) => None,
-        None => Some(WhyLine::Lost(LostBlock {
-            block: number,
-            replay: Verdict::Unreadable,
-        })),
+    if let Some(line) = line {
+        course.events = course.events.saturating_add(1);
+        sink.take(&line)?;
     }
+    Ok(())
 }
 
-impl Inquiry for Course {
-    ghost use Rattle.lab_why.specs.Courses.{StepLines, last_lines};
+impl<S: LineSink<WhyLine>> Visit<S> for Course {
+    ghost use Rattle.std.specs.Prelude.{⊤, false};
 
-    type Line = WhyLine;
+    ghost IsReported = { λ _ _ _ _ _. ⊤ };
 
-    ghost Lines = { StepLines };
+    ghost enough = { λ _. false };
 
-    ghost lasting = { last_lines };
-
-    fn unreadable(&mut self, number: u64) -> (Option<WhyLine>, Option<WhyLine>) {
-        let lost = lost_line(self.options.only, number);
-        (pass_gap(self), lost)
+    fn has_enough(&self) -> bool {
+        false
     }
 
-    fn missing(&mut self) -> (Option<WhyLine>, Option<WhyLine>) {
-        (pass_gap(self), None)
+    fn unreadable(&mut self, number: u64, sink: &mut S) -> Result<(), LateError> {
+        self.pass_gap(sink)?;
+        match self.options.only {
+            Some(_) => Ok(()),
+            None => sink.take(&WhyLine::Lost(LostBlock {
+                block: number,
+                replay: Verdict::Unreadable,
+            })),
+        }
+    }
+
+    fn missing(&mut self, sink: &mut S) -> Result<(), LateError> {
+        self.pass_gap(sink)
     }
 
     fn begins(
@@ -153,26 +113,24 @@ impl Inquiry for Course {
         alloc: Global,
         before: &Result<Kept, Unknown>,
         seen: &Seen<'_>,
-    ) -> Result<(Option<WhyLine>, Option<WhyLine>), NoMemory> {
-        let left = finish(self);
-        let line = begin_life(alloc, self, before, seen)?;
-        Ok((left, line))
+        sink: &mut S,
+    ) -> Result<(), LateError> {
+        self.finish(sink)?;
+        self.begin_after(before);
+        let Ok(()) = begin(alloc, &mut self.life, before, &seen.entry.event) else {
+            return Err(LateError::NoMemory);
+        };
+        describe(alloc, self, seen, sink)
     }
 
-    fn goes_on(
-        &mut self,
-        alloc: Global,
-        seen: &Seen<'_>,
-    ) -> Result<(Option<WhyLine>, Option<WhyLine>), NoMemory> {
-        let line = go_on(alloc, self, seen)?;
-        Ok((None, line))
+    fn goes_on(&mut self, alloc: Global, seen: &Seen<'_>, sink: &mut S) -> Result<(), LateError> {
+        let Ok(()) = follow(alloc, &mut self.life, &seen.entry.event) else {
+            return Err(LateError::NoMemory);
+        };
+        describe(alloc, self, seen, sink)
     }
 
-    fn head(&mut self, _block: &Block) -> (Option<WhyLine>, Option<WhyLine>) {
-        (None, None)
-    }
-
-    fn last(&self) -> (Option<WhyLine>, Option<WhyLine>) {
-        (left_line(self), None)
+    fn head(&mut self, _block: &Block, _sink: &mut S) -> Result<(), LateError> {
+        Ok(())
     }
 }

@@ -1,4 +1,5 @@
 //! The text of a value for people: its members by name, with the units that people use.
+
 use serde::{Case, Serialize, Serializer};
 use std::fmt;
 

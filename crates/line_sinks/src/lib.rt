@@ -2,17 +2,15 @@
 #![tactic(auto)]
 
 mod describing;
-mod items;
 mod kept;
 mod sink;
 mod values;
 
 pub use describing::{LengthText, PlaceText, SpeedText, describe_lines, describe_value};
-pub use items::Items;
 pub use kept::{
     KeptValues, LevelObject, NationalObject, PositionObject, Status, TrainObject, write_ascii,
 };
-pub use sink::{JsonLines, LineSink, TextLines, take_each, take_if, take_two};
+pub use sink::{JsonLines, LineSink, TextLines, take_each};
 pub use values::{
     level_number, named_indications, write_brake, write_indications, write_level, write_mode,
 };

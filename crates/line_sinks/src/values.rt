@@ -1,4 +1,5 @@
 //! Values that the lines of several commands have, as JSON (`docs/reference/json.md`).
+
 use events::{Brake, Indications};
 use mode_table::{Mode, TrainLevel};
 use serde::Serializer;

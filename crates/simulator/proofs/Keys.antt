@@ -3,7 +3,7 @@ use Rattle.std.proofs.Common.{◌≡◌, ℕ, List, codes, Result, Err, sym, ap,
 use Rattle.serde_json.specs.Data.{Data, no_members}
 use Rattle.serde_json.specs.Find.{get}
 use Rattle.serde_json.proofs.Views.{get_member-put_other}
-use Rattle.json_values.specs.Shapes.{object_of_one}
+use Rattle.simulator.specs.Shapes.{object_of_one}
 use Rattle.simulator.specs.Steps.{drive, telegram, clock, driver, flush, or_else, by_key}
 use Rattle.simulator.specs.declared.step_kinds.StepKind.{StepKind}
 use Rattle.simulator.specs.declared.fault.ScenarioFault.{ScenarioFault}

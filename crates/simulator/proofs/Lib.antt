@@ -1,5 +1,6 @@
 pub mod Identity
 pub mod Keys
+pub mod Lists
 pub mod Passing
 pub mod Readings
 pub mod Sifting

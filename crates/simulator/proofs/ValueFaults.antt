@@ -16,7 +16,7 @@ use Rattle.driver.specs.declared.action_kind.ActionKind.{ActionKind}
 use Rattle.driver.specs.declared.action_kind.ActionKind.TheVariants as a_kind
 use Rattle.driver.specs.Numbers.{action_by, item_by, reason_by}
 use Rattle.simulator.specs.Values.{◌>>=◌, shaped, given, whole, within, known, numbered, hex_bytes, bytes_in, whole_item, text_item, items_at}
-use Rattle.json_values.specs.Shapes.{has_members, list_in}
+use Rattle.simulator.specs.Shapes.{has_members, list_in}
 use Rattle.simulator.specs.Groups.{whole_at, are_texts, laid_one, laid, group, groups}
 use Rattle.simulator.specs.Actions.{is_identity, level, confirmed, acknowledged, identity, entered_identity, lone_value, entered_number, brakes, train, entered_train, chosen_level, confirmed_item, acknowledged_kind, bare, or_shape, by_kind, action}
 use Rattle.simulator.specs.Steps.{drive, telegram, clock, driver, flush, or_else, by_key, step_of}

@@ -4,7 +4,7 @@ use Rattle.std.specs.Prelude.{ℕ, ◌+◌, ◌&&◌, nat_le, ℤ, List, [], ◌
 use Rattle.serde_json.specs.Data.{Data}
 use Rattle.serde_json.specs.Find.{get, as_str}
 use Rattle.simulator.specs.Values.{◌>>=◌, shaped, given, whole, items_at, within, bytes_in}
-use Rattle.json_values.specs.Shapes.{has_members}
+use Rattle.simulator.specs.Shapes.{has_members}
 use Rattle.simulator.specs.declared.balise.Balise.{Balise}
 use Rattle.simulator.specs.declared.fault.ScenarioFault.{ScenarioFault}
 use Rattle.simulator.specs.declared.fault.ScenarioFault.TheVariants.{Shape}

@@ -6,8 +6,8 @@ pub mod Laws
 pub mod Limits
 pub mod Lives
 pub mod Numbers
-pub mod Parts
 pub mod Passing
 pub mod Scenarios
+pub mod Shapes
 pub mod Steps
 pub mod Values

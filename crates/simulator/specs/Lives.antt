@@ -11,7 +11,7 @@ use Rattle.simulator.specs.Passing.{passed}
 use Rattle.simulator.specs.Course.{Run, start, taken, ended}
 use Rattle.simulator.specs.declared.balise.Balise.{Balise}
 use Rattle.simulator.specs.Values.{◌>>=◌, shaped, given, whole, items_at, numbered}
-use Rattle.json_values.specs.Shapes.{has_members}
+use Rattle.simulator.specs.Shapes.{has_members}
 use Rattle.simulator.specs.Groups.{groups}
 use Rattle.simulator.specs.Steps.{step_of}
 use Rattle.simulator.specs.declared.fault.ScenarioFault.{ScenarioFault}

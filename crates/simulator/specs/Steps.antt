@@ -6,7 +6,7 @@ use Rattle.serde_json.specs.Find.{get, as_str, as_bool}
 use Rattle.units.specs.Limits.{longest_life}
 use Rattle.events.specs.declared.input.Input.TheVariants.{Telegram, Clock, Driver}
 use Rattle.simulator.specs.Values.{◌>>=◌, shaped, given, whole, whole_item, within, bytes_in}
-use Rattle.json_values.specs.Shapes.{has_members, list_in}
+use Rattle.simulator.specs.Shapes.{has_members, list_in}
 use Rattle.simulator.specs.Limits.{farthest_back, farthest}
 use Rattle.simulator.specs.Actions as actions
 use Rattle.simulator.specs.declared.step_kinds.StepKind.{StepKind}

@@ -5,7 +5,7 @@ use Rattle.serde_json.specs.Find.{get, as_number, as_i64, as_str}
 use Rattle.simulator.specs.Numbers.{natural}
 use Rattle.hex.specs.Hex.{decode_of}
 use Rattle.hex.specs.declared.error.FromHexError.{FromHexError}
-use Rattle.json_values.specs.Shapes.{list_in}
+use Rattle.simulator.specs.Shapes.{list_in}
 use Rattle.packets.specs.Limits.{telegram_bytes}
 use Rattle.simulator.specs.declared.fault.ScenarioFault.{ScenarioFault}
 use Rattle.simulator.specs.declared.fault.ScenarioFault.TheVariants.{Shape, OutOfRange, BadHex}

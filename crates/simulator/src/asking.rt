@@ -1,17 +1,17 @@
 //! What a step of a scenario asks for.
 ghost use Rattle.std.specs.Prelude.{◌≡◌, ◌⊎◌, false, Ok, Err, IfOk, IfErr, MatchOption};
 ghost use Rattle.serde_json.specs.View.{view};
-ghost use Rattle.json_values.specs.Shapes.{has_members, object_of_one};
+ghost use Rattle.simulator.specs.Shapes.{has_members, object_of_one};
 ghost use Rattle.simulator.specs.Steps.{drive, telegram, clock, driver, flush, by_key, step_of};
 
 use crate::ScenarioFault;
 use crate::actions::action_of;
 use crate::distance::Distance;
+use crate::shapes::items_of;
 use crate::step_kinds::StepKind;
 use crate::telegrams::bytes_of;
 use crate::values::{whole_item, within};
 use events::Input;
-use json_values::items_of;
 use serde_json::Value;
 use std::alloc::Global;
 use units::{LONGEST_LIFE, Mph, Ms};

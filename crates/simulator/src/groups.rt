@@ -5,9 +5,9 @@ ghost use Rattle.simulator.specs.Groups.{are_texts, laid_one, laid, group, group
 
 use crate::ScenarioFault;
 use crate::balise::Balise;
+use crate::shapes::has_members;
 use crate::telegrams::bytes_of;
 use crate::values::{items_at, within};
-use json_values::has_members;
 use serde_json::Value;
 use std::alloc::Global;
 
@@ -28,9 +28,9 @@ fn are_texts(items: &[Value]) -> bool
     true
 }
 
-/// Lays a balise at a place.
+// Lays a balise at a place.
 #[tactic(auto, unfolding(crate::specs::Groups::laid_one))]
-pub(crate) fn lay_one(
+fn lay_one(
     alloc: Global,
     at: u64,
     item: &Value,

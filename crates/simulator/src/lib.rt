@@ -15,6 +15,7 @@ mod laws;
 mod lives;
 mod parts;
 mod reading;
+mod shapes;
 mod step_kinds;
 mod telegrams;
 mod track;
@@ -26,9 +27,7 @@ pub use driving::Course;
 pub use fault::ScenarioFault;
 pub use laws::{describes_or_fails, not_json_exactly, one_answer};
 pub use lives::life_of;
-pub use parts::{
-    fault_of_at, fault_of_balise, fault_of_cold, fault_of_group, fault_of_spacing, fault_of_step,
-};
+pub use parts::{fault_of_cold, fault_of_group, fault_of_step};
 pub use reading::{Scenario, ends_of, events_of};
 pub use step_kinds::StepKind;
 pub use track::Track;

@@ -4,7 +4,7 @@ ghost use Rattle.serde_json.specs.View.{view};
 ghost use Rattle.simulator.specs.Values.{whole_item, items_at, within};
 
 use crate::ScenarioFault;
-use json_values::items_of;
+use crate::shapes::items_of;
 use serde_json::Value;
 
 /// The whole number at a place in a list.

@@ -36,8 +36,8 @@ WITHIN = {"within_events": "event", "within_ms": "time_ms", "within_cm": "place_
 EXPECTED = ("note", "sections", "rule", "at", "expect", "row", "from", "until", "where", "always", "never", "after", *WITHIN)
 CASE = ("test_case", "feature", "sections", "rule", "starting_conditions", "lives")
 MORE = ("slots", "expected", "include", "telegrams", "parts", "shows")
-ADVICE, MOST_ITEM = "advice", 999
-"""What a case may list under `shows` besides the items of docs/explain/safety.md: the advice of `etcs_lab lint`."""
+MOST_ITEM = 999
+"""The greatest number of an item of docs/explain/safety.md."""
 END = "end"
 ROW = re.compile(r"([0-9]{1,4})(?: from ([A-Z]{2}))?")
 MOST_SLOTS, USUAL_SLOTS = 4096, 64
@@ -304,8 +304,7 @@ def shows_of(at: Value) -> list[Value]:
     """The items that a case shows."""
     found = at.elements()
     for one in found:
-        if one.text() != ADVICE:
-            one.integer(1, MOST_ITEM)
+        one.integer(1, MOST_ITEM)
     return found
 
 

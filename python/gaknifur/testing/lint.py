@@ -1,22 +1,21 @@
-"""The command `lint`: list faults and weak points of a track and of the steps on it, by `etcs_lab lint` and the items of docs/explain/safety.md."""
+"""The command `lint`: list the faults of scenarios in JSON, and the weak points of a track and of the steps on it, by the items of docs/explain/safety.md."""
 import functools
 import json
 import sys
-import tempfile
 from collections.abc import Iterator
 from dataclasses import dataclass, replace
 from pathlib import Path
 from types import SimpleNamespace
 
-from .. import files
 from ..errors import say
 from ..escaping import shown
-from ..journal.reading import Json, Progress, parsed
-from ..program import DEVICE, FOUND, REFUSED, Failed, Run
+from ..journal.reading import Json, Progress
+from ..program import DEVICE, FOUND, REFUSED, Failed
 from ..simulation import closed_loop, drives
-from ..yaml_files import Value, document
+from ..yaml_files import Value, document, nodes_of, text_of
 from . import case_files, cases, track_checks
-from .course import DRIVE, Life, of_case, played, scenario_of
+from .course import DRIVE, Life, of_case, played
+from .scenario_faults import faults
 from .track_checks import Finding, Judged
 from .track_messages import walk
 
@@ -48,8 +47,8 @@ class Line:
 
     @property
     def item(self) -> str:
-        """The item that a case can list under `shows`."""
-        return str(self.members["safety"]) if "safety" in self.members else cases.ADVICE
+        """The item that a case can list under `shows`; none for a fault."""
+        return str(self.members.get("safety", ""))
 
     @property
     def place(self) -> Json:
@@ -72,16 +71,14 @@ class Line:
 
 # ---- where
 
-def located(life: Life, pointer: str, has_place: bool = False) -> Value | None:
-    """The value at a pointer of a life, in the YAML or else in the JSON. None if the JSON can't be read as YAML, or `etcs_lab lint`
-    printed line and column."""
+def located(life: Life, pointer: str) -> Value | None:
+    """The value at a pointer of a life, in the YAML or else in the JSON. None if the JSON can't be read as YAML."""
     if life.scenario is None:
-        if has_place:
-            return None
         assert life.path is not None
         try:
-            return document(life.path).inner(pointer)
-        except Failed:  # not every JSON is YAML, such as one with tabs
+            (node,) = nodes_of(life.path, text_of(life.path).replace("\t", " "))  # (within a text JSON has no tab)
+            return Value(life.path, node).inner(pointer)
+        except (Failed, ValueError):
             return None
     words = pointer.split("/")[1:]
     if pointer == DRIVE and life.drive:
@@ -93,46 +90,11 @@ def located(life: Life, pointer: str, has_place: bool = False) -> Value | None:
     return life.at
 
 
-# ---- etcs_lab lint
-
-def advice(life: Life) -> list[Json]:
-    """The lines of `etcs_lab lint` about a scenario."""
-    found: list[Json] = []
-    with tempfile.TemporaryDirectory(prefix="gaknifur-") as folder:
-        path = life.path
-        if path is None:
-            path = Path(folder) / "scenario.json"
-            path.write_text(scenario_of(life).text(), encoding="utf-8")
-        run = Run(["lint", "--json"], path)
-        for line in run.lines():
-            found.append(parsed(line, "lint"))
-        if run.status not in (0, 4):
-            raise run.failed(path)
-    return found
-
-
-def advice_text(line: Json) -> str:
-    """A line of `etcs_lab lint` as text."""
-    pointer = line["pointer"] or "scenario"
-    if "fault" in line:
-        return f"{pointer}: refused {line['fault']} {line['name']}; wanted: {line['wanted']}"
-    if "repeated" in line:
-        return f"{pointer}: repeated, first at line {line['first_line']}, column {line['first_column']}; the last one counts"
-    return f"{pointer}: {line['advice']}"
-
+# ---- findings
 
 def finding_text(found: Finding) -> str:
     """A finding as text."""
     return f"SAFETY {found.safety}: {found.pointer}: {found.found}. Do: {found.do}"
-
-
-UNACCEPTED, UNREACHED = "the kernel doesn't accept the action", "no drive leads over"
-
-
-def is_of_a_fresh_life(line: Json, life: Life, number: int) -> bool:
-    """Whether advice may be wrong here: it holds only for a first life that ends with its steps."""
-    text = str(line.get("advice", ""))
-    return number > 1 and text.startswith(UNACCEPTED) or life.drive is not None and text.startswith(UNREACHED)
 
 
 # ---- judging
@@ -142,11 +104,12 @@ def lines_of(subject: Subject) -> Iterator[Line]:
     lives = [life for life in subject.lives if not (life.ends or "").startswith("refused")]
     is_faulty = False
     for number, life in enumerate(lives, 1):
-        for line in advice(life):
-            is_faulty = is_faulty or "fault" in line
-            if not is_of_a_fresh_life(line, life, number):
-                yield Line(subject, number if subject.case else None, line["pointer"], located(life, line["pointer"], True),
-                           line, advice_text(line))
+        for fault in faults(life.path) if life.path else ():
+            is_faulty = True
+            members = {"wanted": fault.wanted, "there": fault.there, "line": fault.line, "column": fault.column}
+            text = f"{fault.pointer or 'scenario'}: wanted {fault.wanted}, found {fault.there}"
+            at = None if fault.line else located(life, fault.pointer)
+            yield Line(subject, number if subject.case else None, fault.pointer, at, members, text)
     if not is_faulty:
         yield from safety_of(subject, lives)
 
@@ -213,7 +176,6 @@ def of_file(path: Path) -> Iterator[Subject]:
         scenario, drive = drives.read(path)
         yield Subject(path, [Life(at, scenario, None, drive=drive)])
     else:
-        files.opened(path).close()  # (etcs_lab would wait for a pipe)
         yield Subject(path, [Life(None, None, path)])
 
 
@@ -233,7 +195,7 @@ def paths_of(path: Path) -> list[Path]:
 
 def check_items(items: list[str]) -> None:
     """Refuses items without a check."""
-    known = {cases.ADVICE, *map(str, track_checks.ITEMS)}
+    known = set(map(str, track_checks.ITEMS))
     for one in items:
         if one not in known:
             raise Failed(f"--without {one}: no such check; lab lint --help lists them", 2)

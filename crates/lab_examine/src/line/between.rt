@@ -1,6 +1,4 @@
 //! The line of what is lost between blocks, or contradicts.
-ghost use Rattle.std.specs.Prelude.{◌≡◌};
-ghost use Rattle.lab_examine.specs.Lines.{last_lost, lost_line};
 
 use crate::line::ExamineLine;
 use examination::Lost;
@@ -40,24 +38,12 @@ pub enum BetweenLine {
     Moment(WrongBlock),
 }
 
-// The last event before one, where both are known.
-fn last_lost(next: Option<u64>) -> Option<u64>
-    ensures { result ≡ last_lost next }
-{
-    match next {
-        Some(next) if next > 0 => Some(next - 1),
-        _ => None,
-    }
-}
-
 /// The line of blocks that are lost.
-pub(crate) fn lost_line(lost: Lost) -> ExamineLine
-    ensures { result ≡ lost_line lost }
-{
+pub(crate) fn lost_line(lost: Lost) -> ExamineLine {
     ExamineLine::Between(BetweenLine::Lost(LostBlocks {
         first_block: lost.first,
         last_block: lost.last,
         first_event: lost.first_event,
-        last_event: last_lost(lost.next_event),
+        last_event: lost.next_event.and_then(|next| next.checked_sub(1)),
     }))
 }

@@ -1,6 +1,6 @@
 //! The line of an image.
-ghost use Rattle.std.specs.Prelude.{◌≡◌, ◌*◌, ◌≤◌};
-ghost use Rattle.lab_examine.specs.Lines.{trailing_bytes, is_size, some_if, slots_by_size, sector_object, image_line};
+ghost use Rattle.std.specs.Prelude.{◌≤◌};
+ghost use Rattle.blocks.specs.FirstSector.{most_slots};
 
 use crate::file_facts::FileFacts;
 use crate::line::ExamineLine;
@@ -56,40 +56,18 @@ pub struct ImageLine {
     pub first_sector: SectorObject,
 }
 
-// How many bytes lie beyond the last whole slot.
-fn trailing_bytes(bytes: u64, whole: u64) -> u64
-    requires { whole ≤ 1_048_576 }
-    ensures { result ≡ trailing_bytes bytes whole }
-{
-    bytes.saturating_sub(512 * (1 + 6 * whole))
-}
-
-// Whether an image of so many slots has so many sectors.
-fn is_size(sectors: u64, slots: u64) -> bool
-    requires { 6 * slots ≤ sectors }
-    ensures { result ≡ is_size sectors slots }
-{
-    sectors - 6 * slots == 1 && (2 <= slots && slots <= 1_048_576)
-}
-
-fn some_if(is: bool, slots: u64) -> Option<u64>
-    ensures { result ≡ some_if is slots }
-{
-    if is { Some(slots) } else { None }
-}
-
 // How many slots the image has that has so many sectors, if there is one.
-fn slots_by_size(sectors: u64) -> Option<u64>
-    ensures { result ≡ slots_by_size sectors }
-{
+fn slots_by_size(sectors: u64) -> Option<u64> {
     let slots = sectors.saturating_sub(1) / 6;
-    some_if(is_size(sectors, slots), slots)
+    if sectors % 6 == 1 && 2 <= slots && slots <= 1_048_576 {
+        Some(slots)
+    } else {
+        None
+    }
 }
 
 // What the first sector of a file holds, where an image of this size has so many slots.
-fn sector_object(first: FirstSector, size_slots: Option<u64>) -> SectorObject
-    ensures { result ≡ sector_object first size_slots }
-{
+fn sector_object(first: FirstSector, size_slots: Option<u64>) -> SectorObject {
     let (state, field, byte, slots) = match first {
         FirstSector::Readable(slots) => (SectorState::Readable, None, None, Some(slots)),
         FirstSector::Unreadable(Some(fault)) => (
@@ -112,8 +90,7 @@ fn sector_object(first: FirstSector, size_slots: Option<u64>) -> SectorObject
 
 /// The line of an image that was surveyed so.
 pub(crate) fn image_line(file: &FileFacts, survey: Survey) -> ExamineLine
-    requires { survey.whole ≤ 1_048_576 }
-    ensures { result ≡ image_line file.now survey }
+    requires { survey.whole ≤ most_slots }
 {
     let first = first_sector_of(&file.first);
     ExamineLine::Image(ImageLine {
@@ -121,7 +98,7 @@ pub(crate) fn image_line(file: &FileFacts, survey: Survey) -> ExamineLine
         sectors: survey.sectors,
         slots: survey.slots,
         whole_slots: survey.whole,
-        trailing_bytes: trailing_bytes(file.bytes, survey.whole),
+        trailing_bytes: file.bytes.saturating_sub(512 * (1 + 6 * survey.whole)),
         sha256: file.digest,
         first_sector: sector_object(first, slots_by_size(survey.sectors)),
     })

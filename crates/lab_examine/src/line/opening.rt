@@ -1,6 +1,4 @@
 //! The lines of the journal and of a power-up.
-ghost use Rattle.std.specs.Prelude.{◌≡◌, is_none};
-ghost use Rattle.lab_examine.specs.Lines.{journal_object, journal_line, power_up_line};
 
 use crate::line::ExamineLine;
 use crate::opening::{JournalFacts, Opened};
@@ -71,9 +69,7 @@ fn write_kept<S: Serializer>(kept: &Option<Kept>, out: &mut S) -> Result<(), S::
 }
 
 // What is reported of a journal.
-fn journal_object(journal: JournalFacts) -> JournalObject
-    ensures { result ≡ journal_object journal }
-{
+fn journal_object(journal: JournalFacts) -> JournalObject {
     if journal.newest == 0 {
         return JournalObject {
             first_block: None,
@@ -93,36 +89,15 @@ fn journal_object(journal: JournalFacts) -> JournalObject
 }
 
 /// The line of a journal, or that there is none.
-pub(crate) fn journal_line(journal: Option<JournalFacts>) -> ExamineLine
-    ensures { result ≡ journal_line journal }
-{
-    match journal {
-        Some(journal) => ExamineLine::Journal(Some(journal_object(journal))),
-        None => ExamineLine::Journal(None),
-    }
-}
-
-// Whether a power-up opens the image.
-fn opens(refusal: Option<Refusal>) -> bool
-    ensures { result ≡ is_none refusal }
-{
-    match refusal {
-        None => true,
-        Some(_) => false,
-    }
+pub(crate) fn journal_line(journal: Option<JournalFacts>) -> ExamineLine {
+    ExamineLine::Journal(journal.map(|journal| journal_object(journal)))
 }
 
 /// The line of what a power-up would do.
-pub(crate) fn power_up_line(opened: &Opened) -> ExamineLine
-    ensures { result ≡ power_up_line opened.now }
-{
-    let kept = match &opened.found {
-        Some(found) => Some(found.kept.copy()),
-        None => None,
-    };
+pub(crate) fn power_up_line(opened: &Opened) -> ExamineLine {
     ExamineLine::PowerUp(PowerUpLine {
-        opens: opens(opened.refusal),
+        opens: opened.refusal.is_none(),
         refusal: opened.refusal,
-        kept,
+        kept: opened.found.as_ref().map(|found| found.kept.copy()),
     })
 }

@@ -1,6 +1,4 @@
 //! The line of a slot.
-ghost use Rattle.std.specs.Prelude.{◌≡◌, ◌<◌, ◌^◌};
-ghost use Rattle.lab_examine.specs.Lines.{facts_of, is_in_journal, unreadable_block, content_of, slot_line};
 
 use crate::line::ExamineLine;
 use crate::names::{write_field, write_format};
@@ -97,7 +95,7 @@ pub struct SlotLine {
 #[derive(Clone, Copy)]
 pub(crate) struct SlotPlace {
     /// Its number.
-    pub(crate) slot: u64,
+    pub(crate) slot: u32,
     /// The number of the oldest block of the journal, 0 where the image has none.
     pub(crate) first: u64,
     /// Whether the slot that a misplaced number belongs to holds that block too.
@@ -105,9 +103,7 @@ pub(crate) struct SlotPlace {
 }
 
 // What a block of this number reports of itself.
-fn facts_of(number: u64, block: &Block) -> BlockFacts
-    ensures { result ≡ facts_of number block.now }
-{
+fn facts_of(number: u64, block: &Block) -> BlockFacts {
     BlockFacts {
         block: number,
         format: block.format,
@@ -117,48 +113,24 @@ fn facts_of(number: u64, block: &Block) -> BlockFacts
     }
 }
 
-// Whether the journal has the block of this number, where its oldest is the first one, which is 0 where there is none.
-fn is_in_journal(first: u64, number: u64) -> bool
-    ensures { result ≡ is_in_journal first number }
-{
-    first != 0 && first <= number
-}
-
 // What begins with this number, with its first wrong field.
-fn unreadable_block(slot: u64, number: u64, fault: Option<Fault>) -> UnreadableBlock
-    requires { slot < 2 ^ 32 }
-    ensures { result ≡ unreadable_block slot number fault }
-{
-    let Some(fault) = fault else {
-        return UnreadableBlock {
-            block: number,
-            field: None,
-            record: None,
-            byte: None,
-        };
-    };
+fn unreadable_block(slot: u32, number: u64, fault: Option<Fault>) -> UnreadableBlock {
+    let place = fault.map_or(0, |fault| fault.place);
     UnreadableBlock {
         block: number,
-        field: Some(fault.name),
-        record: if fault.place == 0 {
-            None
-        } else {
-            Some(fault.place)
-        },
-        byte: Some(512 * (2 + 6 * slot) + u64::from(fault.at)),
+        field: fault.map(|fault| fault.name),
+        record: if place == 0 { None } else { Some(place) },
+        byte: fault.map(|fault| 512 * (2 + 6 * u64::from(slot)) + u64::from(fault.at)),
     }
 }
 
 // What a slot holds; None where it is empty.
-fn content_of(place: SlotPlace, seen: Slot, block: &Block) -> Option<SlotContent>
-    requires { place.slot < 2 ^ 32 }
-    ensures { result ≡ content_of place seen block.now }
-{
+fn content_of(place: SlotPlace, seen: Slot, block: &Block) -> Option<SlotContent> {
     match seen.state {
         SlotState::Block(number) => Some(SlotContent::Block(OwnBlock {
             facts: facts_of(number, block),
             gate_is_own: seen.is_sound,
-            in_journal: is_in_journal(place.first, number),
+            in_journal: place.first != 0 && place.first <= number,
         })),
         SlotState::Unreadable(number) => Some(SlotContent::Unreadable(unreadable_block(
             place.slot, number, seen.fault,
@@ -176,17 +148,13 @@ fn content_of(place: SlotPlace, seen: Slot, block: &Block) -> Option<SlotContent
 }
 
 /// The line of a slot, if it isn't empty.
-pub(crate) fn slot_line(place: SlotPlace, seen: Slot, block: &Block) -> Option<ExamineLine>
-    requires { place.slot < 2 ^ 32 }
-    ensures { result ≡ slot_line place seen block.now }
-{
-    match content_of(place, seen, block) {
-        Some(content) => Some(ExamineLine::Slot(SlotLine {
-            slot: place.slot,
-            first_sector: 1 + 6 * place.slot,
-            last_sector: 6 + 6 * place.slot,
-            content,
-        })),
-        None => None,
-    }
+pub(crate) fn slot_line(place: SlotPlace, seen: Slot, block: &Block) -> Option<ExamineLine> {
+    let content = content_of(place, seen, block)?;
+    let slot = u64::from(place.slot);
+    Some(ExamineLine::Slot(SlotLine {
+        slot,
+        first_sector: 1 + 6 * slot,
+        last_sector: 6 + 6 * slot,
+        content,
+    }))
 }

@@ -4,7 +4,5 @@ pub returns : goal.returns
 returns c =
     let first = c.with_subcommand-first.ensures _ _ c.images_app.ensures c.decode_app.ensures in
     let second = c.with_subcommand-second.ensures _ _ first c.packets_app.ensures in
-    let third = c.with_subcommand-third.ensures _ _ second c.telegram_app.ensures in
-    let fourth = c.with_subcommand-fourth.ensures _ _ third c.lint_app.ensures in
-    let fifth = c.with_subcommand-fifth.ensures _ _ fourth c.run_app.ensures in
-    c.with_subcommand.ensures _ _ fifth c.play_app.ensures
+    let third = c.with_subcommand-third.ensures _ _ second c.run_app.ensures in
+    c.with_subcommand.ensures _ _ third c.play_app.ensures

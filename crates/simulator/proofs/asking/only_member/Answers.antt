@@ -6,7 +6,7 @@ use Rattle.serde_json.specs.Find.{as_object}
 use Rattle.serde_json.specs.View.{view, members_view}
 use Rattle.serde_json.specs.declared.value.Value.{Value}
 use Rattle.serde_json.proofs.Views.{members_len-members_view}
-use Rattle.json_values.specs.Shapes.{has_count, object_of_one}
+use Rattle.simulator.specs.Shapes.{has_count, object_of_one}
 use Rattle.simulator.proofs.asking.only_member.Goals as goal
 
 -- the object that has these members

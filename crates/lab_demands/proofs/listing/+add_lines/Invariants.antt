@@ -1,5 +1,0 @@
-use Rattle.std.proofs.Common.{length}
-use Rattle.lab_demands.proofs.listing.+add_lines.Given as goal
-
-abbrev pub decreases-add_lines : goal.decreases-add_lines
-decreases-add_lines l = length l.demands.now

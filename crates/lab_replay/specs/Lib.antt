@@ -1,4 +1,0 @@
-pub mod Courses
-pub mod Lines
-pub mod Replays
-pub mod Steps

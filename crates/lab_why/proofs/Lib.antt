@@ -1,4 +1,0 @@
-pub mod Counting
-pub mod OneMore
-pub mod Releasing
-pub mod Same

@@ -39,7 +39,7 @@ from gaknifur.program import DEVICE, REFUSED, Failed  # noqa: E402
 from replay_rows import examples  # noqa: E402
 
 LEAST = 300
-SLOW = 20
+SLOW = 200
 """The least number of altered bags, and the greatest processor time of an answer in seconds: about a second on an idle machine, up to six on a
 busy one. An answer that reads a file without end never comes, and ends the test."""
 UNSIGNED = "no named signer signed the bag, so nothing is shown about who sealed it"

@@ -34,6 +34,11 @@ def lamp(browser: Browser) -> str:
     return str(browser.run("const lamp = document.getElementById('guard'); return lamp.hidden ? '' : lamp.textContent"))
 
 
+def press(browser: Browser, *names: str) -> None:
+    """Presses buttons at once, wherever the page has scrolled to."""
+    browser.run("for (const name of arguments) document.getElementById(name).click()", *names)
+
+
 def go_on(browser: Browser, condition: str) -> None:
     """Steps until a condition on the course `c` holds."""
     browser.run(f"const c = window.gaknifur.drive.course; for (let n = 0; n < 2000 && !({condition}); n++) document.getElementById('one-step').click()")
@@ -48,18 +53,18 @@ def guarded(browser: Browser, _page: Path, folder: Path) -> int:
         path.write_text(json.dumps(scenario), encoding="utf-8")
         open_scenario(browser, path)
         assert browser.text("drive-error") == "", (name, browser.text("drive-error"))
-        browser.click(*START, *presses)
+        press(browser, *START, *presses)
         assert lamp(browser) == "", name
-        browser.click("full")
+        press(browser, "full")
         go_on(browser, "c.motion.place > 6000 || c.output.brake")
         assert browser.run("return window.gaknifur.drive.course.motion.place") > 6_000, (name, browser.text("brake"))
         assert lamp(browser) == says, (name, lamp(browser))
-        browser.run("document.getElementById('guard').click()")
+        press(browser, "guard")
         assert lamp(browser) == says, f"{name}: acknowledged while the train moves"
-        browser.click("slow")
+        press(browser, "slow")
         go_on(browser, "c.motion.stands")
         assert lamp(browser) == says, f"{name}: gone before it is acknowledged"
-        browser.run("document.getElementById('guard').click()")
+        press(browser, "guard")
         assert lamp(browser) == "", f"{name}: not acknowledged at standstill"
         assert browser.image() == image_of(folder, saved(browser))[0], name
     return len(CASES)

@@ -1,17 +1,17 @@
 /**
  * @file
- * Telegrams of balises (ERTMS/ETCS level 1, UNISIG SUBSET-026 issue 2.3.0), for C and C++.
+ * Balise telegrams (ERTMS/ETCS level 1, UNISIG SUBSET-026 issue 2.3.0), for C and C++.
  *
  * Link with libetcs_unit.a (tools/library).
  *
- * The functions are proved to do what is said here, on every input, as long as the caller keeps what it owes:
+ * The functions are proved to do what this header states, on every input, if the caller ensures:
  *
- * - `bytes` is not null, also where `len` is 0 (then nothing is read, and any pointer that is not null will do);
- * - `len` bytes from there on may be read, and `len` is at most PTRDIFF_MAX;
+ * - `bytes` is not null, even if `len` is 0 (then nothing is read, and any pointer that is not null will do);
+ * - the `len` bytes at `bytes` may be read, and `len` is at most PTRDIFF_MAX;
  * - nobody writes to them while the call runs.
  *
- * The calls don't test this. A call reads those bytes alone, takes no memory but some of the stack, keeps nothing, and
- * always returns. So calls may run at once in several threads, on the same bytes too.
+ * The calls don't test this. A call reads only those bytes, allocates nothing, keeps nothing, and
+ * always returns. So several threads may call at once, also on the same bytes.
  */
 #ifndef ETCS_H
 #define ETCS_H
@@ -23,7 +23,7 @@
 extern "C" {
 #endif
 
-/** Before a call whose answer may mean the brake: a compiler warns where a program drops it. */
+/** Before a call whose result may mean the brake: a compiler warns if a program drops it. */
 #if (defined(__cplusplus) && (__cplusplus >= 201703L)) || (defined(__STDC_VERSION__) && (__STDC_VERSION__ >= 202311L))
 #define ETCS_MUST_USE [[nodiscard]]
 #elif defined(__GNUC__)
@@ -32,11 +32,11 @@ extern "C" {
 #define ETCS_MUST_USE
 #endif
 
-/** The bytes of a telegram, at most: its user bits (etcs_unit_telegram says which). */
+/** The greatest size of a telegram, in bytes: its user bits (see etcs_unit_telegram). */
 #define ETCS_TELEGRAM_BYTES 104
 
-/** Why bytes carry no telegram. TOO_LONG comes before all others; otherwise the reported fault is the first one in the
- * order of the bits. */
+/** Why bytes contain no telegram. TOO_LONG comes before all others; otherwise the first fault in the
+ * order of the bits is returned. */
 enum etcs_fault {
     ETCS_OK = 0,            /**< no fault */
     ETCS_TRUNCATED = 1,     /**< the bits end within the header or a packet */
@@ -50,14 +50,14 @@ enum etcs_fault {
     ETCS_TOO_LONG = 9       /**< there are more than ETCS_TELEGRAM_BYTES bytes */
 };
 
-/** Tests whether bytes carry a telegram (SUBSET-026, 8.4.2). Call it to check a telegram outside a unit; etcs_unit_telegram
- * needs no such check. Returns ETCS_OK, or the number of the fault (enum etcs_fault). The bits of each byte count from its
- * highest one. What follows the end mark is free. */
+/** Tests whether bytes contain a telegram (SUBSET-026, 8.4.2). Call it to check a telegram outside a unit; etcs_unit_telegram
+ * needs no such check. Returns ETCS_OK, or the number of the fault (enum etcs_fault). The highest bit of each byte is its
+ * first. Any bits may follow the end mark. */
 ETCS_MUST_USE
 uint32_t etcs_decode(const uint8_t *bytes, uint64_t len);
 
-/** Counts the packets before the end mark: 0 to 33. Returns 0 where the bytes carry no telegram, and also where they carry
- * one with no packet; etcs_decode distinguishes the two. */
+/** Counts the packets before the end mark: 0 to 33. Returns 0 if the bytes contain no telegram, and also if they contain
+ * one without a packet; etcs_decode distinguishes the two. */
 uint32_t etcs_packet_count(const uint8_t *bytes, uint64_t len);
 
 #ifdef __cplusplus

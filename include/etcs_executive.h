@@ -1,7 +1,7 @@
 /**
  * @file
  * A cyclic executive around one unit, for C99 and C++, with an operating system or without: conditions 10 to 13, 21 and 23
- * of docs/explain/integration.md as code. There is nothing to link but the library of etcs_unit.h. It takes no memory but an
+ * of docs/explain/integration.md as code. Link only the library of etcs_unit.h. It needs no memory but an
  * etcs_executive (8.3 kB), and that of the unit.
  *
  *     static etcs_executive executive;
@@ -12,20 +12,20 @@
  *             continue;
  *
  * A cycle waits until it is due, takes the inputs, prepares, carries out the requests, releases, obeys, and then feeds the
- * watchdog. What is obeyed is the newest output with the most restrictive brake of all that the cycle released, until the
- * next cycle that releases one. A unit is opened sector by sector: the executive holds no copy of the medium.
+ * watchdog. It obeys the newest output with the most restrictive brake of all outputs that the cycle released, until the
+ * next cycle that releases one. It opens a unit sector by sector, and holds no copy of the medium.
  *
- * A FAULT MEANS THE EMERGENCY BRAKE UNTIL etcs_executive_end AND A NEW etcs_executive_begin. A fault is each answer of the
- * unit but OK, an input that could not be taken, a failed medium, a late cycle, and a stack that went beyond its end (enum
+ * A FAULT MEANS THE EMERGENCY BRAKE UNTIL etcs_executive_end AND A NEW etcs_executive_begin. A fault is any result of the
+ * unit but OK, an input that could not be taken, a failed medium, a late cycle, or a stack overflow (enum
  * etcs_executive_fault). After a fault the executive takes no input, commands the emergency brake in each cycle, and no longer
  * feeds the watchdog.
  *
- * The caller owes what etcs_unit.h says, and:
+ * Ensure what etcs_unit.h requires, and:
  *
- * - one task makes all calls of an executive, or a lock orders them; other tasks and interrupts put what they have into
+ * - one task makes all calls of an executive, or a lock orders them; other tasks and interrupts put their inputs into
  *   queues, which take_inputs empties;
- * - a watchdog of its own clock brakes where it isn't fed within two cycles: the executive can't brake where it hangs;
- * - the moments of now_us come from a clock that runs on while the program doesn't.
+ * - a watchdog with its own clock brakes if it isn't fed within two cycles: an executive that hangs can't brake;
+ * - the moments of now_us come from a clock that keeps running while the program is stopped.
  */
 #ifndef ETCS_EXECUTIVE_H
 #define ETCS_EXECUTIVE_H
@@ -36,62 +36,62 @@
 extern "C" {
 #endif
 
-/** How often a cycle flushes, at most: so it takes up to 64 inputs. */
+/** The greatest number of flushes in a cycle: so a cycle takes up to 64 inputs. */
 #define ETCS_EXECUTIVE_FLUSHES 8
 
-/** The stack of each call below, in bytes, at most, with that of the unit's calls; what the functions of the equipment take comes
+/** The greatest stack of each call below, in bytes, with that of the unit's calls; the stack of the equipment's functions comes
  * on top. */
 #define ETCS_STACK_BYTES_EXECUTIVE 18432
 
-/** What each byte of the guard below the stack is painted with. */
+/** The value of each byte of the guard below the stack. */
 #define ETCS_STACK_PAINT 0xA5u
 
-/** The faults of an executive that aren't answers of the unit (enum etcs_unit_status). */
+/** The faults of an executive that aren't results of the unit (enum etcs_unit_status). */
 enum etcs_executive_fault {
     ETCS_EXECUTIVE_LATE = 301, /**< a cycle ended too late */
-    ETCS_EXECUTIVE_STACK = 302 /**< the stack went beyond its end */
+    ETCS_EXECUTIVE_STACK = 302 /**< the stack overflowed */
 };
 
-/** What the executive calls of the equipment. Each function gets `of`, those of the medium `medium`. Calls that answer an int
- * answer 1, or 0 where they failed. */
+/** The functions of the equipment that the executive calls. Each gets `of`, those of the medium get `medium`. Functions that
+ * return an int return 1, or 0 if they failed. */
 typedef struct {
-    void *of;           /**< handed to each function but those of the medium */
-    void *medium;       /**< handed to the functions of the medium */
-    uint64_t sectors;   /**< how many sectors the medium has */
+    void *of;           /**< passed to each function but those of the medium */
+    void *medium;       /**< passed to the functions of the medium */
+    uint64_t sectors;   /**< the number of sectors of the medium */
     uint64_t cycle_us;  /**< the length of a cycle */
-    uint64_t late_us;   /**< a cycle is late where it ends so long after it was due, or longer */
+    uint64_t late_us;   /**< a cycle is late if it ends this long after it was due, or longer */
     uint8_t *guard;     /**< the lowest bytes of the stack, or bytes below it that nothing else uses; NULL: the system guards it */
-    size_t guard_bytes; /**< how many: more than any frame skips */
+    size_t guard_bytes; /**< their number: more than any frame skips */
 
     /** Reads a sector, ETCS_UNIT_SECTOR bytes, from the medium itself. */
     int (*read_sector)(void *medium, uint64_t sector, uint8_t *bytes);
     /** Carries out a write or a sync, all of it, before it returns. */
     int (*carry_out)(void *medium, const etcs_unit_request_info *request, const uint8_t *bytes);
-    /** The moment now, in microseconds. */
+    /** Returns the moment now, in microseconds. */
     uint64_t (*now_us)(void *of);
-    /** Returns at this moment, or at once where it is past. */
+    /** Returns at this moment, or at once if it is past. */
     void (*wait_until_us)(void *of, uint64_t moment_us);
-    /** Hands the inputs of this cycle to the unit: a reading of the odometer, a moment of the clock, and what else there is.
-     * Returns OK; PENDING_FULL where there are more, and it is called again after a flush; else a fault. It corrects the
+    /** Passes the inputs of this cycle to the unit: a reading of the odometer, a moment of the clock, and any others.
+     * Returns OK; PENDING_FULL if there are more, and it is called again after a flush; otherwise a fault. It corrects the
      * driver's mistakes itself (etcs_status_classify). */
     uint32_t (*take_inputs)(void *of, etcs_unit *unit);
-    /** Sets the brake lines, and shows the rest. */
+    /** Sets the brake lines, and displays the other fields. */
     void (*obey)(void *of, const etcs_unit_output *command);
     /** Feeds the watchdog: called only after an output of this cycle was obeyed. */
     void (*feed)(void *of);
 } etcs_equipment;
 
-/** An executive. Its fields are for reading. */
+/** An executive. You may read its fields. */
 typedef struct {
-    const etcs_equipment *equipment; /**< what was handed to begin */
+    const etcs_equipment *equipment; /**< the argument of etcs_executive_begin */
     etcs_unit unit;           /**< for etcs_unit_why and the like, from the task that runs the cycles */
-    etcs_unit_output command; /**< what is obeyed */
-    uint64_t cycles;          /**< how many cycles ran until a fault */
+    etcs_unit_output command; /**< the output that is obeyed */
+    uint64_t cycles;          /**< the number of cycles until a fault */
     uint64_t due_us;          /**< when the next cycle is due */
     uint64_t longest_us;      /**< the longest time from when a cycle was due to its end */
     uint32_t fault;           /**< the first fault (enum etcs_unit_status or enum etcs_executive_fault), or OK */
-    uint32_t released;        /**< how many outputs this cycle released */
-    uint8_t bytes[ETCS_UNIT_REQUEST_BYTES]; /**< of the request that is carried out */
+    uint32_t released;        /**< the number of outputs that this cycle released */
+    uint8_t bytes[ETCS_UNIT_REQUEST_BYTES]; /**< the bytes of the request that is being carried out */
 } etcs_executive;
 
 /** Returns the name of a fault, without ETCS_EXECUTIVE_ or ETCS_UNIT_; "unknown" for other numbers. */
@@ -123,7 +123,7 @@ static inline uint32_t etcs_executive_do_(etcs_executive *executive, const etcs_
                           : etcs_unit_done(&executive->unit);
 }
 
-/* Carries out what is to be done, one request after the other, at power-up and in each flush. */
+/* Carries out the requests, one after the other, at power-up and in each flush. */
 static inline uint32_t etcs_executive_carry_out_(etcs_executive *executive) {
     etcs_unit_request_info request;
     uint32_t status = (uint32_t)ETCS_UNIT_OK;
@@ -149,7 +149,7 @@ static inline uint32_t etcs_executive_release_(etcs_executive *executive) {
     return status;
 }
 
-/* Takes the inputs and flushes them, again where there are more; the most restrictive brake of all of them is commanded. */
+/* Takes the inputs and flushes them, again if there are more; commands the most restrictive brake of all flushes. */
 static inline uint32_t etcs_executive_flush_(etcs_executive *executive) {
     const etcs_equipment *const equipment = executive->equipment;
     const uint32_t full = (uint32_t)ETCS_UNIT_PENDING_FULL;
@@ -168,7 +168,7 @@ static inline uint32_t etcs_executive_flush_(etcs_executive *executive) {
     return status;
 }
 
-/* ---- what a cycle checks */
+/* ---- the checks of a cycle */
 
 static inline void etcs_executive_paint_(const etcs_equipment *equipment) {
     volatile uint8_t *const guard = equipment->guard;
@@ -211,7 +211,7 @@ static inline void etcs_executive_clear_(etcs_executive *executive, const etcs_e
 /** Powers up: obeys the emergency brake, paints the guard below the stack, opens the unit on the medium and carries out its
  * power-up. The first cycle is due one cycle later. Call it after each power-up, and after a fault and
  * etcs_executive_end, then with ETCS_COLD_UNKNOWN. The executive is all zeros before its first begin. Returns OK, or the
- * fault; where the unit is still open, IS_OPEN, and nothing has changed. Before the first cycle the watchdog is fed once. */
+ * fault; if the unit is still open, IS_OPEN, and nothing has changed. Feeds the watchdog once before the first cycle. */
 ETCS_MUST_USE
 static inline uint32_t etcs_executive_begin(etcs_executive *executive, const etcs_equipment *equipment, uint32_t cold) {
     uint32_t status;
@@ -231,9 +231,9 @@ static inline uint32_t etcs_executive_begin(etcs_executive *executive, const etc
     return status;
 }
 
-/** Runs a cycle: waits until it is due, takes the inputs, flushes them, obeys, and feeds the watchdog where an output was
- * obeyed. Call it again and again after etcs_executive_begin, whatever it returns: after a fault
- * it only commands the emergency brake. Returns OK, or the fault that holds. */
+/** Runs a cycle: waits until it is due, takes the inputs, flushes them, obeys, and feeds the watchdog if an output was
+ * obeyed. Call it repeatedly after etcs_executive_begin, whatever it returns: after a fault
+ * it only commands the emergency brake. Returns OK, or the first fault. */
 ETCS_MUST_USE
 static inline uint32_t etcs_executive_cycle(etcs_executive *executive) {
     const etcs_equipment *const equipment = executive->equipment;
@@ -252,8 +252,8 @@ static inline uint32_t etcs_executive_cycle(etcs_executive *executive) {
     return executive->fault;
 }
 
-/** Commands the emergency brake, and closes the unit. Call it at the end, and after a fault before another begin. What wasn't
- * released is lost to this life. */
+/** Commands the emergency brake, and closes the unit. Call it at the end, and after a fault before another begin. This life
+ * loses inputs that weren't released. */
 static inline void etcs_executive_end(etcs_executive *executive) {
     const etcs_equipment *const equipment = executive->equipment;
     executive->command.brake = (uint8_t)ETCS_BRAKE_EMERGENCY;

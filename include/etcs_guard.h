@@ -1,12 +1,12 @@
 /**
  * @file
- * A guard next to the onboard unit (ERTMS/ETCS level 1, UNISIG SUBSET-026 issue 2.3.0): what a train of that issue stops for,
- * or obeys, in a telegram, and the unit skips or refuses. For C, C++ and whatever calls C.
+ * A guard next to the onboard unit (ERTMS/ETCS level 1, UNISIG SUBSET-026 issue 2.3.0). It finds what a train of that issue
+ * stops for or obeys in a telegram, but the unit skips or refuses. For C, C++ and every language that can call C.
  *
  * Link with libetcs_unit.a or libetcs_unit.so, which `tools/library PREFIX` builds and installs with this header.
  *
- * The guard hears each telegram before the unit is handed it, and its brake is merged with the unit's. It never takes away
- * from the unit's brake, and the unit and its journal know nothing of it:
+ * Pass each telegram to the guard before you pass it to the unit, and merge the guard's brake with the unit's. The guard never
+ * weakens the unit's brake, and does not affect the unit or its journal:
  *
  *     etcs_guard guard = {0};
  *     etcs_situation situation = {command.mode, ETCS_DIRECTION_NOMINAL, (command.indications & ETCS_SHOWS_OVERRIDDEN) != 0};
@@ -19,16 +19,16 @@
  *
  * With ETCS_GUARD_STRICT a demand of a trip is the emergency brake, and one of the service brake the service brake, until the
  * driver acknowledges at standstill. With ETCS_GUARD_WARN demands are only reported. docs/explain/safety.md (45) and
- * crates/track_guard/README.md have the table of what is demanded, and why.
+ * crates/track_guard/README.md have the table of demands, with the reasons.
  *
- * The mode is that of the last output before the telegram. The direction is that in which the train passes the group: of two
- * balises that are read the one with the lower N_PIG came first in the nominal direction; a single balise has the
- * Q_LINKORIENTATION of the packet 5 that announced it, or no known direction. Pass the bytes that the unit gets.
+ * The mode is that of the last output before the telegram. The direction is that in which the train passes the group: it is
+ * nominal if, of two balises that are read, the one with the lower N_PIG came first; a single balise has the
+ * Q_LINKORIENTATION of the packet 5 that announced it, or no known direction. Pass the same bytes as to the unit.
  *
- * A guard is a plain struct, which is copied and kept as one: no call takes memory or holds a pointer. Each call returns,
- * whatever it is handed, and answers a number of enum etcs_unit_status: OK, NULL_POINTER, END (etcs_guard_demand), or
- * OUT_OF_RANGE, where a number is none of its enum, also in a guard that etcs_guard_begin didn't make. Nothing is written but
- * with OK. ANY ANSWER BUT OK OR END MEANS THE EMERGENCY BRAKE.
+ * A guard is a plain struct that you may copy and keep: no call allocates memory or holds a pointer. Each call returns,
+ * whatever you pass, with a number of enum etcs_unit_status: OK, NULL_POINTER, END (etcs_guard_demand), or
+ * OUT_OF_RANGE if a number is none of its enum, also in a guard that etcs_guard_begin didn't make. Unless it returns OK, a call
+ * writes nothing. ANY RESULT BUT OK OR END MEANS THE EMERGENCY BRAKE.
  */
 #ifndef ETCS_GUARD_H
 #define ETCS_GUARD_H
@@ -39,24 +39,24 @@
 extern "C" {
 #endif
 
-/** In place of NID_PACKET, where the whole telegram is meant. */
+/** In place of NID_PACKET: the whole telegram. */
 #define ETCS_NO_PACKET 256
 
-/** What the guard does with demands: its maker's choice. */
+/** What the guard does with demands. You choose it. */
 enum etcs_guard_policy {
     ETCS_GUARD_STRICT = 1, /**< it brakes until the driver acknowledges at standstill */
     ETCS_GUARD_WARN = 2    /**< it only reports */
 };
 
-/** What is demanded of the equipment around the unit. */
+/** What a telegram demands of the equipment around the unit. */
 enum etcs_demanded {
     ETCS_DEMANDED_TRIP = 1,          /**< the emergency brake */
     ETCS_DEMANDED_SERVICE_BRAKE = 2, /**< the service brake */
     ETCS_DEMANDED_NOT_OBEYED = 3,    /**< the unit doesn't obey a packet that restricts: the equipment has to */
-    ETCS_DEMANDED_UNREADABLE = 4     /**< the unit takes nothing from the telegram */
+    ETCS_DEMANDED_UNREADABLE = 4     /**< the unit uses nothing of the telegram */
 };
 
-/** What was found: the rows of the table (crates/track_guard/specs/Table.antt). */
+/** The rows of the table of demands (crates/track_guard/specs/Table.antt). */
 enum etcs_finding {
     ETCS_FINDING_STOP_IN_STAFF_RESPONSIBLE = 1, /**< packet 137, unless Q_SRSTOP is 1 */
     ETCS_FINDING_DANGER_FOR_SHUNTING = 2,       /**< packet 132, unless Q_ASPECT is 1 */
@@ -67,7 +67,7 @@ enum etcs_finding {
     ETCS_FINDING_AXLE_LOAD_SPEEDS = 7,          /**< packet 51 */
     ETCS_FINDING_ROUTE_SUITABILITY = 8,         /**< packet 70 */
     ETCS_FINDING_SLIPPERY_RAIL = 9,             /**< packet 71, unless M_ADHESION is 1 */
-    ETCS_FINDING_ENDLESS_END_SPEED = 10,        /**< packet 12 whose V_LOA never ends */
+    ETCS_FINDING_ENDLESS_END_SPEED = 10,        /**< packet 12 whose V_LOA has no end */
     ETCS_FINDING_GREATER_VERSION = 11,          /**< M_VERSION from 32 on */
     ETCS_FINDING_SAME_VERSION = 12,             /**< M_VERSION 17 to 31 */
     ETCS_FINDING_LESSER_VERSION = 13,           /**< M_VERSION below 16 */
@@ -75,46 +75,46 @@ enum etcs_finding {
     ETCS_FINDING_REFUSED = 15                   /**< refused otherwise */
 };
 
-/** How sure it is that issue 2.3.0 says so: nobody who wrote the table had a copy of it. */
+/** How sure it is that issue 2.3.0 says so: the authors of the table had no copy of it. */
 enum etcs_sureness {
     ETCS_SURE = 1,         /**< S */
     ETCS_FAIRLY_SURE = 2,  /**< F */
     ETCS_TO_BE_LOOKED_UP = 3 /**< B */
 };
 
-/** The train as a telegram finds it. */
+/** The situation of the train when it reads a telegram. */
 typedef struct {
     uint32_t mode;       /**< enum etcs_mode, before the telegram */
     uint32_t direction;  /**< enum etcs_direction, in which the group is passed */
-    uint32_t overridden; /**< 1 while an override is active, as the last output shows, else 0 */
+    uint32_t overridden; /**< 1 while an override is active, as the last output shows, otherwise 0 */
 } etcs_situation;
 
-/** What a telegram demands: one row of the table that applies. */
+/** A demand of a telegram: one row of the table that applies. */
 typedef struct {
     uint32_t demanded; /**< enum etcs_demanded */
     uint32_t finding;  /**< enum etcs_finding */
-    uint32_t packet;   /**< NID_PACKET; ETCS_NO_PACKET where the whole telegram is refused */
+    uint32_t packet;   /**< NID_PACKET; ETCS_NO_PACKET if the whole telegram is refused */
     uint32_t start;    /**< the place of the packet's first bit in the telegram, from 0 */
-    uint32_t bits;     /**< its L_PACKET; 0 where the telegram is refused */
+    uint32_t bits;     /**< its L_PACKET; 0 if the telegram is refused */
     uint32_t fault;    /**< enum etcs_fault of a telegram that is refused; 0 for a packet */
-    uint32_t chapter;  /**< the chapter of SUBSET-026, issue 2.3.0, as 4 of 4.6.3 */
-    uint32_t section;  /**< its section, as 6 */
-    uint32_t clause;   /**< the clause of that, as 3; 0 for the whole section */
+    uint32_t chapter;  /**< the chapter of SUBSET-026, issue 2.3.0: 4 in 4.6.3 */
+    uint32_t section;  /**< the section: 6 in 4.6.3 */
+    uint32_t clause;   /**< the clause: 3 in 4.6.3; 0 for the whole section */
     uint32_t sureness; /**< enum etcs_sureness */
 } etcs_demand;
 
 /** A guard. All zeros before etcs_guard_begin. */
 typedef struct {
     uint32_t policy;    /**< enum etcs_guard_policy */
-    uint32_t brake;     /**< enum etcs_brake: what it holds */
-    uint32_t has_heard; /**< 1 where it has heard a telegram since the power-up: before, it knows of none */
+    uint32_t brake;     /**< the brake that it holds: enum etcs_brake */
+    uint32_t has_heard; /**< 1 if it has heard a telegram since the power-up, otherwise 0 */
 } etcs_guard;
 
 ETCS_UNIT_ASSERT(sizeof(etcs_situation) == 12u && offsetof(etcs_situation, direction) == 4u && offsetof(etcs_situation, overridden) == 8u);
 ETCS_UNIT_ASSERT(sizeof(etcs_demand) == 40u && offsetof(etcs_demand, packet) == 8u && offsetof(etcs_demand, fault) == 20u && offsetof(etcs_demand, sureness) == 36u);
 ETCS_UNIT_ASSERT(sizeof(etcs_guard) == 12u && offsetof(etcs_guard, brake) == 4u && offsetof(etcs_guard, has_heard) == 8u);
 
-/* ---- the library's own names; the calls below test pointers first, and then call these */
+/* ---- the exports of the library: the calls below test pointers first, and then call these */
 
 uint32_t etcs_guard_begin_(etcs_guard *guard, uint32_t policy);
 uint32_t etcs_guard_hear_(etcs_guard *guard, const uint8_t *bytes, uint64_t len, const etcs_situation *situation, uint32_t *count);
@@ -154,15 +154,15 @@ static inline const char *etcs_sureness_name(uint32_t number) {
 
 /* ---- the calls */
 
-/** Makes the guard of a power-up, with a policy (enum etcs_guard_policy): it holds no brake, and has heard nothing. Returns OK,
- * or OUT_OF_RANGE. */
+/** Initializes the guard for a power-up, with a policy (enum etcs_guard_policy): it holds no brake, and has heard no telegram.
+ * Returns OK, or OUT_OF_RANGE. */
 ETCS_MUST_USE
 static inline uint32_t etcs_guard_begin(etcs_guard *guard, uint32_t policy) {
     return (guard != NULL) ? etcs_guard_begin_(guard, policy) : (uint32_t)ETCS_UNIT_NULL_POINTER;
 }
 
-/** Hears a telegram, before the unit is handed it, and writes to `count` how many demands it makes in this situation
- * (etcs_guard_demand has each). Returns OK, or OUT_OF_RANGE. */
+/** Hears a telegram, and writes to `count` the number of its demands in this situation (etcs_guard_demand returns each). Call it
+ * before you pass the telegram to the unit. Returns OK, or OUT_OF_RANGE. */
 ETCS_MUST_USE
 static inline uint32_t etcs_guard_hear(etcs_guard *guard, const uint8_t *bytes, size_t len, const etcs_situation *situation, uint32_t *count) {
     return ((guard != NULL) && (bytes != NULL) && (situation != NULL) && (count != NULL))
@@ -170,22 +170,22 @@ static inline uint32_t etcs_guard_hear(etcs_guard *guard, const uint8_t *bytes, 
                : (uint32_t)ETCS_UNIT_NULL_POINTER;
 }
 
-/** Writes a demand of a telegram in a situation, from 0 on: first that of the whole telegram where the unit refuses it, then
- * those of its packets, in their order. Returns OK, END after the last one, or OUT_OF_RANGE. */
+/** Writes the demand with this index, from 0, of a telegram in a situation: first that of the whole telegram if the unit refuses
+ * it, then those of its packets, in their order. Returns OK, END after the last one, or OUT_OF_RANGE. */
 ETCS_MUST_USE
 static inline uint32_t etcs_guard_demand(const uint8_t *bytes, size_t len, const etcs_situation *situation, uint32_t index, etcs_demand *demand) {
     return ((bytes != NULL) && (situation != NULL) && (demand != NULL)) ? etcs_guard_demand_(bytes, len, situation, index, demand)
                                                                         : (uint32_t)ETCS_UNIT_NULL_POINTER;
 }
 
-/** The driver acknowledges at this speed: at 0 the guard releases its brake, else nothing changes. Returns OK, or
+/** Notes that the driver acknowledges at this speed: at 0 the guard releases its brake, otherwise nothing changes. Returns OK, or
  * OUT_OF_RANGE. */
 ETCS_MUST_USE
 static inline uint32_t etcs_guard_acknowledge(etcs_guard *guard, uint32_t speed_m_per_h) {
     return (guard != NULL) ? etcs_guard_acknowledge_(guard, speed_m_per_h) : (uint32_t)ETCS_UNIT_NULL_POINTER;
 }
 
-/** Writes the brake to obey where the unit commands `unit_brake` (both enum etcs_brake): the stronger one of the unit's and
+/** Writes the brake to obey if the unit commands `unit_brake` (both enum etcs_brake): the stronger one of the unit's and
  * the guard's. Returns OK, or OUT_OF_RANGE. */
 ETCS_MUST_USE
 static inline uint32_t etcs_guard_command(const etcs_guard *guard, uint32_t unit_brake, uint32_t *brake) {

@@ -1,7 +1,7 @@
 /**
  * @file
- * A journal on a NOR flash whose erase blocks are larger than a sector, for C99 and C++, without memory of its own. Each slot
- * has an erase block, and the first sector has one before them. There is nothing to link but the library of etcs_unit.h.
+ * A journal on a NOR flash whose erase blocks are larger than a sector, for C99 and C++. It allocates nothing. Each slot
+ * has an erase block, and the first sector has one before them. Link only the library of etcs_unit.h.
  *
  *     static etcs_nor nor = {NULL, 4096, 1 + SLOTS, read_flash, program_flash, erase_flash, 0};
  *
@@ -11,24 +11,24 @@
  *     equipment.carry_out = etcs_nor_carry_out;
  *
  * Closing a gate programs zeros over it, and erases nothing. A flush erases the block of its slot, unless etcs_nor_erase_ahead
- * did so since the last flush. Erasing ahead takes the oldest block from the ring a flush earlier; what it leaves is what a loss
- * of power within the next flush may leave too.
+ * did so since the last flush. Erasing ahead removes the oldest block from the ring one flush earlier; the result is one that a
+ * loss of power within the next flush may leave too.
  *
- * However large an erase block is, one slot has it, and the rest of it is unused: several slots can't share one. A loss of power
- * within a flush leaves a slot that can be written again only after an erasure, which would take the newest blocks with it. Where
- * erase blocks are smaller than ETCS_NOR_BLOCK_BYTES, several in turn count as one, and `erase` erases all of them.
- * At set-up etcs_nor_check_blocks refuses a flash whose blocks are others than `block_bytes` says.
+ * Each slot has an erase block of its own, however large that is, and the rest of the block is unused: slots can't share a block.
+ * After a loss of power within a flush a slot can be written again only after an erasure, which would erase the newest blocks in a
+ * shared one. If erase blocks are smaller than ETCS_NOR_BLOCK_BYTES, several adjacent ones count as one, and `erase` erases all of
+ * them. At set-up etcs_nor_check_blocks refuses a flash whose blocks don't have `block_bytes`.
  *
- * Format it as any medium, by etcs_unit_format_request and etcs_nor_carry_out, where its first sector isn't that of a
- * journal already; all else may hold anything.
+ * Format it like any medium, by etcs_unit_format_request and etcs_nor_carry_out, if its first sector isn't that of a
+ * journal already; all other bytes may have any value.
  *
- * A block holds the sectors of its slot, gate first, and then ETCS_NOR_READY where it is erased and unused. A loss of power
- * may leave any bytes where the flash was programmed or erased. So a gate counts as open only where at most
- * ETCS_NOR_WRONG_BITS bits of its mark are wrong, and is read as zeros otherwise; and a block counts as erased only where
- * ETCS_NOR_READY is whole, which is programmed after the erasure and taken away before anything else is programmed.
+ * A block holds the sectors of its slot, gate first, and then ETCS_NOR_READY if it is erased and unused. A loss of power
+ * may leave any bytes where the flash was programmed or erased. So a gate counts as open only if at most
+ * ETCS_NOR_WRONG_BITS bits of its mark are wrong, and is read as zeros otherwise. A block counts as erased only if
+ * ETCS_NOR_READY is complete: it is programmed after the erasure, and removed before anything else is programmed.
  *
- * The caller owes: words may be programmed to zeros after they were programmed (a flash that keeps check bits of its own for each
- * word often forbids it), and a loss of power leaves bytes that are read the same each time.
+ * Ensure that words may be programmed to zeros after they were programmed (a flash with its own check bits for each
+ * word often forbids it), and that after a loss of power bytes are read the same each time.
  */
 #ifndef ETCS_NOR_H
 #define ETCS_NOR_H
@@ -39,10 +39,10 @@
 extern "C" {
 #endif
 
-/** The bytes of an erase block, at least: six sectors and ETCS_NOR_READY. */
+/** The least size of an erase block, in bytes: six sectors and ETCS_NOR_READY. */
 #define ETCS_NOR_BLOCK_BYTES 3080
 
-/** How many of the 64 bits of a gate's mark may be wrong in an open gate. */
+/** The greatest number of wrong bits, of 64, in the mark of an open gate. */
 #define ETCS_NOR_WRONG_BITS 8
 
 /** The bytes after the sectors of a block that is erased and unused. */
@@ -52,33 +52,33 @@ extern "C" {
 #define ETCS_NOR_GATE_ "ETCSGATE"
 #define ETCS_NOR_SECTORS_ (UINT64_C(6) * ETCS_UNIT_SECTOR)
 
-/** A NOR flash. Calls that answer an int answer 1, or 0 where they failed. */
+/** A NOR flash. Functions that return an int return 1, or 0 if they failed. */
 typedef struct {
-    void *of;             /**< handed to each function */
-    uint64_t block_bytes; /**< the bytes of an erase block, at least ETCS_NOR_BLOCK_BYTES */
-    uint64_t blocks;      /**< how many there are: one, and one for each slot */
+    void *of;             /**< passed to each function */
+    uint64_t block_bytes; /**< the size of an erase block, at least ETCS_NOR_BLOCK_BYTES */
+    uint64_t blocks;      /**< the number of blocks: one, and one for each slot */
 
-    /** Reads so many bytes from this place on. */
+    /** Reads `len` bytes at this address. */
     int (*read)(void *of, uint64_t at, uint8_t *bytes, size_t len);
-    /** Programs so many bytes from this place on: bits go from 1 to 0. Answers 1 only where the flash then has these bytes. */
+    /** Programs `len` bytes at this address: bits go from 1 to 0. Returns 1 only if the flash then has these bytes. */
     int (*program)(void *of, uint64_t at, const uint8_t *bytes, size_t len);
-    /** Erases the block at this place: each byte is 0xFF then. Answers 1 only once it is whole. */
+    /** Erases the block at this address: then each byte is 0xFF. Returns 1 only when the erasure is complete. */
     int (*erase)(void *of, uint64_t at);
 
-    uint64_t next; /**< the block to be erased ahead: that after the newest gate; 0 at first, and within a flush */
+    uint64_t next; /**< the block to erase ahead: the one after the newest gate; 0 at first, and within a flush */
 } etcs_nor;
 
-/** What etcs_nor_check_blocks finds. */
+/** The results of etcs_nor_check_blocks. */
 enum etcs_nor_fault {
     ETCS_NOR_OK = 0,             /**< each block is erased by itself */
-    ETCS_NOR_BAD_SIZE = 321,     /**< blocks of fewer bytes than ETCS_NOR_BLOCK_BYTES, or other than 3 to 1,048,577 blocks */
+    ETCS_NOR_BAD_SIZE = 321,     /**< blocks smaller than ETCS_NOR_BLOCK_BYTES, or not 3 to 1,048,577 blocks */
     ETCS_NOR_FAILED = 322,       /**< a read, a program or an erasure failed */
     ETCS_NOR_ERASED_LESS = 323,  /**< an erasure left bytes of its block */
-    ETCS_NOR_ERASED_MORE = 324,  /**< an erasure took bytes of another block, or two places are the same one */
+    ETCS_NOR_ERASED_MORE = 324,  /**< an erasure erased bytes of another block, or two addresses are the same one */
     ETCS_NOR_HAS_JOURNAL = 325   /**< the first sector is that of a journal: nothing was changed */
 };
 
-/* Whether these eight bytes are the mark, but for so many bits. */
+/* Whether these eight bytes are the mark, except for at most `most_wrong` bits. */
 static inline int etcs_nor_is_(const uint8_t *bytes, const char *mark, unsigned most_wrong) {
     unsigned wrong = 0;
     for (unsigned bit = 0; bit < 64u; bit++) {
@@ -87,7 +87,7 @@ static inline int etcs_nor_is_(const uint8_t *bytes, const char *mark, unsigned 
     return wrong <= most_wrong;
 }
 
-/* The place of a sector: 0 has the first block, the next six the second one. */
+/* The address of a sector: sector 0 is in the first block, the next six are in the second one. */
 static inline uint64_t etcs_nor_at_(const etcs_nor *nor, uint64_t sector) {
     return (sector == 0u) ? 0u : (((((sector - 1u) / 6u) + 1u) * nor->block_bytes) + (((sector - 1u) % 6u) * ETCS_UNIT_SECTOR));
 }
@@ -103,12 +103,12 @@ static inline int etcs_nor_zero_(const etcs_nor *nor, uint64_t at) {
     return nor->program(nor->of, at, zeros, sizeof zeros);
 }
 
-/* Erases the block at this place. Its gate's mark is zeros before: a part of an erasure never makes a mark of zeros. */
+/* Erases the block at this address. The mark of its gate is zeros before: a partial erasure never makes a mark of zeros. */
 static inline int etcs_nor_erase_(const etcs_nor *nor, uint64_t at) {
     return etcs_nor_zero_(nor, at) && nor->erase(nor->of, at);
 }
 
-/* Whether the block at this place is erased and unused goes to `is_ready`. */
+/* Writes to `is_ready` whether the block at this address is erased and unused. */
 static inline int etcs_nor_ready_(const etcs_nor *nor, uint64_t at, int *is_ready) {
     uint8_t mark[8];
     const int is_read = nor->read(nor->of, at + ETCS_NOR_SECTORS_, mark, sizeof mark);
@@ -116,7 +116,7 @@ static inline int etcs_nor_ready_(const etcs_nor *nor, uint64_t at, int *is_read
     return is_read;
 }
 
-/* Closes the gate of the block at this place; that of a ready block is closed. */
+/* Closes the gate of the block at this address; that of a ready block is closed already. */
 static inline int etcs_nor_close_(const etcs_nor *nor, uint64_t at) {
     int is_ready;
     return etcs_nor_ready_(nor, at, &is_ready) && ((is_ready != 0) || etcs_nor_zero_(nor, at));
@@ -135,7 +135,7 @@ static inline int etcs_nor_open_(const etcs_nor *nor, uint64_t at, const uint8_t
 }
 
 /** Reads a sector, ETCS_UNIT_SECTOR bytes, of the journal on `nor`, an etcs_nor: read_sector of etcs_equipment. Returns 1, or 0
- * where that failed. */
+ * if that failed. */
 static inline int etcs_nor_read_sector(void *nor, uint64_t sector, uint8_t *bytes) {
     const etcs_nor *const on = (const etcs_nor *)nor;
     if (!etcs_nor_has_(on, sector, 1) || !on->read(on->of, etcs_nor_at_(on, sector), bytes, ETCS_UNIT_SECTOR)) {
@@ -151,7 +151,7 @@ static inline int etcs_nor_read_sector(void *nor, uint64_t sector, uint8_t *byte
 }
 
 /** Carries out a request of a unit, or of a formatting, on `nor`, an etcs_nor: carry_out of etcs_equipment. Returns 1, or 0
- * where that failed, or the request is none of theirs. */
+ * if that failed or there is no such request. */
 static inline int etcs_nor_carry_out(void *nor, const etcs_unit_request_info *request, const uint8_t *bytes) {
     etcs_nor *const on = (etcs_nor *)nor;
     const uint64_t sector = request->sector, at = etcs_nor_at_(on, sector);
@@ -177,9 +177,9 @@ static inline int etcs_nor_carry_out(void *nor, const etcs_unit_request_info *re
     return is_done;
 }
 
-/** Closes the gate of the slot that the next flush takes, and erases its block, so that the flush doesn't wait for it. Call it
- * after a release, where there is time, as at the end of an executive's `feed`; not calling it is right too. Returns 1 where the block is
- * erased, or there is none to erase; 0 where that failed: then the next flush tries again, and fails where it can't either. */
+/** Closes the gate of the slot that the next flush uses, and erases its block, so that the flush doesn't wait for that. Call it
+ * after a release, if there is time, for example at the end of an executive's `feed`; you may leave it out. Returns 1 if the block is
+ * erased, or there is none to erase; 0 if that failed: then the next flush tries again. */
 static inline int etcs_nor_erase_ahead(etcs_nor *nor) {
     const uint64_t at = nor->next * nor->block_bytes;
     int is_ready = 1, is_done = 1;
@@ -194,12 +194,12 @@ static inline int etcs_nor_erase_ahead(etcs_nor *nor) {
 
 /* ---- at set-up */
 
-/* The place of the last eight bytes of a block. */
+/* The address of the last eight bytes of a block. */
 static inline uint64_t etcs_nor_end_(const etcs_nor *nor, uint64_t block) {
     return ((block + 1u) * nor->block_bytes) - 8u;
 }
 
-/* Writes what etcs_nor_check_blocks leaves at both ends of a block: no gate's mark, and not ETCS_NOR_READY. */
+/* Writes the trial that etcs_nor_check_blocks leaves at both ends of a block: neither a gate's mark nor ETCS_NOR_READY. */
 static inline void etcs_nor_trial_(uint64_t block, uint8_t *mark) {
     for (unsigned byte = 0; byte < 8u; byte++) {
         mark[byte] = (uint8_t)((byte < 4u) ? 0x5Au : (block >> (8u * (byte - 4u))));
@@ -250,7 +250,7 @@ static inline uint32_t etcs_nor_is_tried_(const etcs_nor *nor, uint64_t block) {
     return fault;
 }
 
-/* Answers HAS_JOURNAL where the first sector is that of a journal. */
+/* Returns HAS_JOURNAL if the first sector is that of a journal. */
 static inline uint32_t etcs_nor_journal_(const etcs_nor *nor) {
     uint8_t first[ETCS_UNIT_SECTOR];
     etcs_image facts;
@@ -261,9 +261,9 @@ static inline uint32_t etcs_nor_journal_(const etcs_nor *nor) {
     return fault;
 }
 
-/** Checks that an erasure takes the block at its place, all of it and nothing else. Call it at set-up, before the formatting: IT
- * ERASES EVERYTHING, each block once, unless the flash has a journal: erase its first block before where that is to go.
- * Returns enum etcs_nor_fault; after any answer but ETCS_NOR_OK don't use the flash; HAS_JOURNAL says nothing of its blocks. */
+/** Checks that an erasure erases the block at its address, all of it and nothing else. Call it at set-up, before the formatting: IT
+ * ERASES EVERYTHING, each block once, unless the flash has a journal; to discard a journal, erase its first block before.
+ * Returns enum etcs_nor_fault. Use the flash only after ETCS_NOR_OK; HAS_JOURNAL says nothing about its blocks. */
 ETCS_MUST_USE
 static inline uint32_t etcs_nor_check_blocks(const etcs_nor *nor) {
     const uint64_t most = UINT64_C(1048577);

@@ -34,8 +34,8 @@ NO_PACKET = 256
 
 
 class Fault(enum.IntEnum):
-    """Why bytes carry no telegram. TOO_LONG comes before all others; otherwise the reported fault is the first one in
-    the order of the bits."""
+    """Why bytes contain no telegram. TOO_LONG comes before all others; otherwise the first fault in the order of the
+    bits is returned."""
 
     OK = 0
     TRUNCATED = 1
@@ -58,7 +58,7 @@ class Proof(enum.IntEnum):
 
 
 class Status(enum.IntEnum):
-    """What calls answer. docs/reference/refusals.md says more of each."""
+    """The results of calls. docs/reference/refusals.md explains each."""
 
     OK = 0
     OPEN_DEVICE_FAULT = 1
@@ -92,7 +92,7 @@ class Status(enum.IntEnum):
 
 
 class StatusKind(enum.IntEnum):
-    """What an answer is (etcs_status_classify)."""
+    """The kind of a result (etcs_status_classify)."""
 
     OK = 0
     MISTAKE = 1
@@ -100,7 +100,7 @@ class StatusKind(enum.IntEnum):
 
 
 class Source(enum.IntEnum):
-    """Whom a call's values come from."""
+    """The source of a call's values."""
 
     DRIVER = 0
     EQUIPMENT = 1
@@ -115,7 +115,7 @@ class Cold(enum.IntEnum):
 
 
 class Action(enum.IntEnum):
-    """What the driver does without further values (SUBSET-026, 5)."""
+    """The driver's actions that have no values (SUBSET-026, 5)."""
 
     CHOOSE_LEVEL_0 = 1
     CHOOSE_LEVEL_1 = 2
@@ -157,7 +157,7 @@ class Level(enum.IntEnum):
 
 
 class Brake(enum.IntEnum):
-    """What the brakes are commanded to do."""
+    """The brake command."""
 
     NONE = 0
     SERVICE = 1
@@ -165,7 +165,7 @@ class Brake(enum.IntEnum):
 
 
 class Indication(enum.IntFlag):
-    """What the driver is shown; etcs_unit_output has the sum."""
+    """Indications to the driver; etcs_unit_output has their sum."""
 
     ON_SIGHT = 1
     SHUNTING = 2
@@ -177,7 +177,7 @@ class Indication(enum.IntFlag):
 
 
 class RequestKind(enum.IntEnum):
-    """What is to be done on the medium."""
+    """The kinds of requests for the medium."""
 
     WRITE = 1
     SYNC = 2
@@ -185,8 +185,8 @@ class RequestKind(enum.IntEnum):
 
 
 class BrakeCause(enum.IntEnum):
-    """Why a brake is commanded: the rows of the brake table, by their places in etcs_unit_why and etcs_why
-    (docs/explain/brakes.md, which says how each ends). The first six command the emergency brake."""
+    """Why a brake is commanded: the rows of the brake table, by their index in etcs_unit_why and etcs_why
+    (docs/explain/brakes.md, also for how each ends). The first six command the emergency brake."""
 
     NOT_REVALIDATED = 0
     IN_TRIP = 1
@@ -226,7 +226,7 @@ class LimitCause(enum.IntEnum):
 
 
 class Acknowledgement(enum.IntEnum):
-    """Whether an acknowledgement by the driver is awaited (SUBSET-026, 5.7, 5.9, 5.10)."""
+    """Whether the unit waits for an acknowledgement by the driver (SUBSET-026, 5.7, 5.9, 5.10)."""
 
     NONE = 0
     ASKED = 1
@@ -234,7 +234,7 @@ class Acknowledgement(enum.IntEnum):
 
 
 class Datum(enum.IntEnum):
-    """Whether a datum may be relied on (SUBSET-026, 4.10)."""
+    """The status of a datum (SUBSET-026, 4.10)."""
 
     UNKNOWN = 0
     VALID = 1
@@ -242,7 +242,7 @@ class Datum(enum.IntEnum):
 
 
 class Refusal(enum.IntEnum):
-    """Why an action of the driver isn't accepted: the first of its conditions that fails, in this order."""
+    """Why an action of the driver isn't accepted: its first condition that fails, in this order."""
 
     NONE = 0
     OTHER_MODE = 1
@@ -258,7 +258,7 @@ class Refusal(enum.IntEnum):
 
 
 class GroupOutcome(enum.IntEnum):
-    """What becomes of a balise group (SUBSET-026, 3.4.4 and 3.16.2). The first three are accepted: their packets are
+    """The outcome of a balise group (SUBSET-026, 3.4.4 and 3.16.2). The first three are accepted: their packets are
     used."""
 
     ANNOUNCED = 1
@@ -273,7 +273,7 @@ class GroupOutcome(enum.IntEnum):
 
 
 class Reaction(enum.IntEnum):
-    """What linking asks for (Q_LINKREACTION)."""
+    """The reaction of linking (Q_LINKREACTION)."""
 
     TRIP = 0
     SERVICE = 1
@@ -281,7 +281,7 @@ class Reaction(enum.IntEnum):
 
 
 class TelegramOutcome(enum.IntEnum):
-    """What becomes of the bytes of a balise, apart from the groups that they close (SUBSET-026, 3.4)."""
+    """The outcome of the bytes of a balise, apart from the groups that they close (SUBSET-026, 3.4)."""
 
     COUNTS = 1
     GROUP_CLOSED = 2
@@ -290,7 +290,7 @@ class TelegramOutcome(enum.IntEnum):
 
 
 class Direction(enum.IntEnum):
-    """The direction in which a group is passed."""
+    """The direction in which a train passes a group."""
 
     REVERSE = 0
     NOMINAL = 1
@@ -385,14 +385,14 @@ class TripCause(enum.IntEnum):
 
 
 class GuardPolicy(enum.IntEnum):
-    """What the guard does with demands: its maker's choice."""
+    """What the guard does with demands. You choose it."""
 
     STRICT = 1
     WARN = 2
 
 
 class Demanded(enum.IntEnum):
-    """What is demanded of the equipment around the unit."""
+    """What a telegram demands of the equipment around the unit."""
 
     TRIP = 1
     SERVICE_BRAKE = 2
@@ -401,7 +401,7 @@ class Demanded(enum.IntEnum):
 
 
 class Finding(enum.IntEnum):
-    """What was found: the rows of the table (crates/track_guard/specs/Table.antt)."""
+    """The rows of the table of demands (crates/track_guard/specs/Table.antt)."""
 
     STOP_IN_STAFF_RESPONSIBLE = 1
     DANGER_FOR_SHUNTING = 2
@@ -421,7 +421,7 @@ class Finding(enum.IntEnum):
 
 
 class Sureness(enum.IntEnum):
-    """How sure it is that issue 2.3.0 says so: nobody who wrote the table had a copy of it."""
+    """How sure it is that issue 2.3.0 says so: the authors of the table had no copy of it."""
 
     SURE = 1
     FAIRLY_SURE = 2

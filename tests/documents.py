@@ -2,7 +2,7 @@
 """Runs the commands of documents in docs/ in their order and compares what each prints, on both streams, with what is below it.
 Several documents are run one after another in one folder, as a reader goes through them: no two use the same file names.
 
-    tests/documents.py [--write] DOCUMENT..    as howto/sql. With --write replace the output in the document
+    tests/documents.py [--write] DOCUMENT..    as howto/sql or ../README. With --write replace the output in the document
 
 A command follows `$ `, indented by four or in a block of `console`; lines after `> `, or after a backslash, go on
 with it. A block of C or Python becomes the file of the HOME that the line above it names. The folder has what the
@@ -19,7 +19,7 @@ from pathlib import Path
 TOP = Path(__file__).resolve().parents[1]
 PROGRAMS = {name: Path(os.environ.get(name.upper()) or TOP / f"crates/{name}/out/{name}").resolve()
             for name in ("etcs", "etcs_lab")}
-COMMANDS = {"start/c": 9, "start/code": 8, "start/investigate": 10, "start/tests": 6, "howto/c-display": 2,
+COMMANDS = {"../README": 3, "start/c": 9, "start/code": 8, "start/investigate": 10, "start/tests": 6, "howto/c-display": 2,
             "howto/c-flash": 2, "howto/c-guard": 2, "howto/c-journal": 6,
             "howto/c-loop": 2, "howto/c-static-memory": 2, "howto/closed-loop": 9,
             "howto/coverage": 2, "howto/cpp": 2, "howto/damaged-image": 20, "howto/lint": 8,

@@ -24,6 +24,7 @@ class Sentence:
     text: str
     place: Place
     names: list = field(default_factory=list)
+    premises: list = field(default_factory=list)
 
 
 def read(path):
@@ -42,21 +43,23 @@ def plain(text):
 
 
 def blocks(path, heading):
-    """The paragraphs and the items of lists below a heading of a page, each with the line where it begins."""
+    """The paragraphs, items of lists and rows of tables below a heading of a page, each with the line where it begins. Of a row the first
+    cell is the sentence, and the third one its premises."""
     found, is_inside, is_new = [], False, True
     for number, line in enumerate(read(path).splitlines(), 1):
         if line.startswith("## "):
             is_inside = line == f"## {heading}"
         elif is_inside and not line.strip():
             is_new = True
-        elif is_inside:
-            item = re.match(r"(\d+\.|-) ", line)
+        elif is_inside and not line.startswith("|-"):
+            item = re.match(r"(\d+\.|-|\|) ", line)
             if is_new or item:
                 found.append((number, []))
             found[-1][1].append(line[item.end() :] if item else line)
             is_new = False
-    said = [(number, " ".join(" ".join(lines).split())) for number, lines in found]
-    return [Sentence(plain(one), plain(one), Place(path, number), NAME.findall(one)) for number, one in said]
+    said = [(number, " ".join(" ".join(lines).split()).strip("| ").split(" | ")) for number, lines in found]
+    return [Sentence(plain(first), plain(first), Place(path, number), NAME.findall(" ".join((first, *more))), ", ".join(more[1:]).split(", "))
+            for number, (first, *more) in said]
 
 
 def items():

@@ -166,7 +166,7 @@ class Reader:
         self.faults += [f'{one.place}: no requirement is of "{one.text[:60]}.." ({heading}): give it an identity in {PAGE}' for one in left.values()]
 
     def read_promise(self, identity, at, members, said):
-        """Reads a promise, and compares the names in backticks on the page with those of the requirement, in both directions."""
+        """Reads a promise, and compares its premises and the names in backticks on the page with those of the requirement, in both directions."""
         it = Requirement(identity, "promises", said.text, "own", said.place)
         self.hold(it, members)
         there = {name.rsplit("::", 1)[-1] for name in said.names}
@@ -176,6 +176,8 @@ class Reader:
             self.fault(at, f"{PROMISES} names `{name}` in {identity}, and nothing here does: add it to clauses, laws, defined or words")
         for name in sorted(mine - there):
             self.fault(at, f"{identity} names {name}, and {PROMISES} doesn't: name it there, or list its law under unnamed")
+        if [f"A-{name}" for name in said.premises if name] != it.held["premises"]:
+            self.fault(at, f"{PROMISES} has the premises {', '.join(said.premises)} in {identity}, and not those here: make them the same")
 
     def read_premise(self, identity, _, members, said):
         """Reads a premise, with who has to meet it, and the conditions for integrators, which are on their page in these words."""

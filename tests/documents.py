@@ -24,7 +24,7 @@ COMMANDS = {"../README": 3, "start/c": 9, "start/code": 8, "start/investigate": 
             "howto/c-loop": 2, "howto/c-static-memory": 2, "howto/closed-loop": 9,
             "howto/coverage": 2, "howto/cpp": 2, "howto/damaged-image": 20, "howto/lint": 8,
             "howto/oracle": 7, "howto/play": 5, "howto/python": 1, "howto/replay": 11,
-            "howto/report": 3, "howto/rust": 2, "howto/seal": 11, "howto/searching": 7,
+            "howto/report": 3, "howto/rust": 2, "howto/seal": 10, "howto/searching": 7,
             "howto/sql": 15, "howto/tables": 6, "howto/telegrams": 4, "howto/time-of-day": 5,
             "howto/why-did-it-brake": 9, "howto/write-test-cases": 17}
 """How many commands a document has, at least."""

@@ -1,6 +1,6 @@
 #!/bin/bash
 # Tests the package python/gaknifur and its script ./lab on the programs that the full check built: types, the package's own tests,
-# exit statuses, the page of all commands, tables and database compared with plain readers, reports, anonymous ones, sealed copies, releases,
+# exit statuses, the page of all commands, tables and database compared with plain readers, reports, anonymous ones, seals,
 # and cases of journals.
 #
 #     tests/lab_package.sh [ETCS_LAB ETCS [IMAGES [SEED]]]    on other programs, with more or other images

@@ -4,23 +4,19 @@ An existing file is replaced only with `--force`, and only if it is a regular fi
 A file is written under a temporary name and synced, and is renamed once it is whole.
 """
 import contextlib
-import ctypes
-import errno
 import os
 import re
 import secrets
 import shutil
 import sqlite3
 import stat
-from collections.abc import Callable, Collection, Iterable, Iterator
+from collections.abc import Callable, Iterable, Iterator
 from dataclasses import dataclass
 from pathlib import Path
 from typing import BinaryIO
 from urllib.parse import quote
 
-from .errors import say
 from .escaping import shown
-from .evidence import formats
 from .journal import layout
 from .locks import lock
 from .program import DEVICE, REFUSED, Failed, naming
@@ -32,10 +28,6 @@ WAIT_SECONDS = 60.0
 """How long to wait for a database that another program writes to."""
 
 
-AT_CURRENT, RENAME_NOREPLACE = -100, 1
-"""Linux' numbers for renameat2: the current folder, and the flag not to replace an existing name."""
-LEFT = re.compile(r"\.lab-[0-9]+-[0-9a-f]{16}")
-"""The names of unfinished files and folders."""
 MAKER = "gaknifur lab"
 """The name of the maker in pages, pictures and workbooks."""
 
@@ -232,97 +224,25 @@ def write_new(path: Path, data: bytes) -> None:
     put(Path(os.path.realpath(path)), (data,), None)
 
 
-def sync_file(path: Path) -> None:
-    """Returns when the system reports that all of a file is on the medium."""
-    descriptor = os.open(path, os.O_RDONLY | os.O_NOFOLLOW | os.O_CLOEXEC)
-    try:
-        os.fsync(descriptor)
-    finally:
-        os.close(descriptor)
-
-
 @contextlib.contextmanager
-def new_folder(path: Path, names: Collection[str]) -> Iterator[Path]:
-    """A new folder that is filled under a temporary name, and renamed once its files are whole and synced. If it can't be filled, it is
-    removed. The leftovers of a killed run are removed first; `names` are the names of the files that such a folder may have."""
-    if status_of(path) is not None or path.is_symlink():
+def new_folder(path: Path) -> Iterator[Path]:
+    """A new folder of files, which is filled under another name, and renamed once they are write-protected and synced. If it can't be
+    filled, nothing is left."""
+    if os.path.lexists(path):
         raise refused(path, "already exists; name a new folder")
-    real = Path(os.path.realpath(path))
-    remove_left(real.parent, names)
-    with naming(path), unfinished(real) as temporary:
-        yield temporary
-        for folder, _, some in os.walk(temporary, topdown=False):
-            for name in some:
-                os.chmod(Path(folder, name), 0o444)
-                sync_file(Path(folder, name))
-            sync_folder(Path(folder))
+    place = path.with_name(f".lab-{secrets.token_hex(8)}")
+    with naming(path):
+        place.mkdir()
         try:
-            rename_new(temporary, real)
-        except OSError as error:
-            if error.errno in (errno.EEXIST, errno.ENOTEMPTY, errno.ENOTDIR):
-                raise refused(path, "was created by somebody else meanwhile; it is not replaced") from error
+            yield place
+            for one in place.iterdir():
+                one.chmod(0o444)
+                with one.open("rb") as file:
+                    os.fsync(file.fileno())
+            place.rename(path)
+        except BaseException:
+            shutil.rmtree(place, ignore_errors=True)
             raise
-        sync_folder(real.parent)
-
-
-@contextlib.contextmanager
-def unfinished(real: Path) -> Iterator[Path]:
-    """A temporary folder next to a name, locked while it is filled, so that nobody takes it for a leftover of a killed run. It is
-    removed at the end, unless it was renamed."""
-    temporary = real.with_name(f".lab-{os.getpid()}-{secrets.token_hex(8)}")
-    temporary.mkdir()
-    descriptor = os.open(temporary, os.O_RDONLY | os.O_DIRECTORY | os.O_NOFOLLOW | os.O_CLOEXEC)
-    try:
-        with contextlib.suppress(OSError, Failed):  # (a file system without locks: there nobody removes leftovers)
-            lock(descriptor)
-        yield temporary
-    finally:
-        shutil.rmtree(temporary, ignore_errors=True)
-        os.close(descriptor)
-
-
-def rename_new(one: Path, other: Path) -> None:
-    """Renames a folder to a name that doesn't exist yet, in one step. If the file system can't refuse an existing name, an empty folder
-    of that name may be replaced."""
-    call = getattr(ctypes.CDLL(None, use_errno=True), "renameat2", None)
-    if call is not None:
-        if call(AT_CURRENT, os.fsencode(one), AT_CURRENT, os.fsencode(other), RENAME_NOREPLACE) == 0:
-            return
-        number = ctypes.get_errno()
-        if number not in (errno.EINVAL, errno.ENOSYS):
-            raise OSError(number, os.strerror(number), str(other))
-    os.rename(one, other)
-
-
-def remove_left(folder: Path, names: Collection[str]) -> None:
-    """Removes the folders that killed runs left unfinished, and says so: those that this user owns, that nobody locks, and that contain
-    only files with these names."""
-    with contextlib.suppress(OSError):
-        for name in sorted(os.listdir(folder)):
-            if LEFT.fullmatch(name):
-                remove_one_left(folder / name, names)
-
-
-def folders_of(names: Collection[str]) -> set[str]:
-    """The folders of some files."""
-    return {name.rpartition("/")[0] for name in names if "/" in name}
-
-
-def remove_one_left(path: Path, names: Collection[str]) -> None:
-    """Removes a folder if a killed run left it."""
-    if not path.is_dir() or path.is_symlink():
-        return
-    descriptor = os.open(path, os.O_RDONLY | os.O_DIRECTORY | os.O_NOFOLLOW | os.O_CLOEXEC)
-    try:
-        lock(descriptor)
-        plain, others = formats.names_in(path)
-        if os.fstat(descriptor).st_uid == os.geteuid() and set(others) <= folders_of(names) and set(plain) <= set(names):
-            shutil.rmtree(path)
-            say(f"{path}: removed, since it was the unfinished output of a run that was killed")
-    except (OSError, Failed, formats.Unfit):
-        pass
-    finally:
-        os.close(descriptor)
 
 
 def is_there(path: Path, inputs: Iterable[Path] = ()) -> bool:

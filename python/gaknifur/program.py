@@ -116,29 +116,14 @@ def tried(script: Path) -> Path:
     return Path(os.fsdecode(done.stdout.removesuffix(b"\n")))
 
 
-@dataclass(frozen=True)
-class Completed:
-    """A completed run of a system tool: its status, its output, and what it printed on standard error."""
-
-    status: int
-    output: str
-    errors: str
-
-    def last(self) -> str:
-        """The last line that isn't empty."""
-        lines = [line.strip() for line in (self.errors or self.output).splitlines() if line.strip()]
-        return lines[-1] if lines else f"status {self.status}"
-
-
-def tool(*words: str | Path, given: bytes = b"") -> Completed:
-    """Runs a system tool: ssh-keygen, gpg, gpgv or openssl. Raises Failed if it is missing."""
+def tool(*words: str | Path, folder: Path, given: bytes = b"") -> tuple[int, list[str]]:
+    """The status of sha512sum or ssh-keygen, run in a folder, and the lines that it prints, those of standard error last. Raises Failed if
+    it is missing."""
     try:
-        done = subprocess.run(words, input=given, capture_output=True)
+        done = subprocess.run(words, cwd=folder, input=given, capture_output=True)
     except FileNotFoundError as error:
-        raise Failed(f"{words[0]} is missing; Debian has it (openssh-client, openssl, gpg, gpgv)", DEVICE) from error
-    except OSError as error:
-        raise Failed(f"{words[0]}: {error.strerror}", DEVICE) from error
-    return Completed(done.returncode, done.stdout.decode(errors="replace"), done.stderr.decode(errors="replace"))
+        raise Failed(f"{words[0]} is missing; install it (Debian's packages coreutils and openssh-client). Nothing was changed.", DEVICE) from error
+    return done.returncode, (done.stdout + done.stderr).decode(errors="replace").splitlines()
 
 
 def find(name: str = "etcs_lab") -> str:

@@ -391,12 +391,12 @@ TERMINATED = """
 import os, signal, sys
 from unittest.mock import patch
 from gaknifur.__main__ import main
-def end(data):
+def end(image, data, *_):
     if not os.fork():
         os.kill(os.getpid(), signal.SIGTERM)
     print(os.WTERMSIG(os.wait()[1]), sorted(os.listdir(data)), flush=True)
     os.kill(os.getpid(), signal.SIGTERM)
-with patch("gaknifur.evidence.seal.write_outputs", end):
+with patch("gaknifur.evidence.seal.draw", end):
     sys.exit(main(["seal", *sys.argv[1:]]))
 """
 

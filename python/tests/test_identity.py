@@ -42,12 +42,9 @@ class Files(unittest.TestCase):
             (self.room / f"{name}.identity").write_text(text)
         return self.room / name
 
-    def test_keep(self) -> None:
-        copy = self.image("copy", None)
-        identity.keep(self.image("none", None), copy)
-        self.assertIsNone(identity.of(copy))
-        identity.keep(self.image("a", TEXT), copy)
-        self.assertEqual((self.room / "copy.identity").read_text(), TEXT)
+    def test_a_file(self) -> None:
+        self.assertIsNone(identity.of(self.image("none", None)))
+        self.assertEqual(identity.of(self.image("a", TEXT)), Identity("17", "402 001", "2.3.0"))
 
     def test_a_file_that_is_none(self) -> None:
         for text in ("driver: me", "x" * 5_000):

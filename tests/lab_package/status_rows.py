@@ -72,6 +72,7 @@ ROWS = """\
 3 etcs_lab check nosuch
 3 lab check nosuch
 3 lab lint nosuch.json
+3 lab verify nosuch
 3 lab test nosuch
 3 lab table image /nosuch/out.csv
 3 lab test --junitxml=/nosuch/out.xml fails
@@ -89,11 +90,12 @@ ROWS = """\
 4 lab table altered t.csv
 4 lab database altered t.db
 4 lab report altered t.html
-4 lab seal altered t.bag
+4 lab seal altered t.seal
 4 lab case altered --event 5
 4 lab why image
 4 lab why image 99
 4 lab verify broken
+4 lab verify bag
 4 tools/verify sealed
 4 lab test fails --junitxml=fails.xml
 4 lab campaign fails fails.db
@@ -118,6 +120,8 @@ def rooms(room, etcs, env):
     data = (room / "image").read_bytes()
     (room / "cut").write_bytes(data[:20_000])
     (room / "hollow").mkdir()
+    (room / "bag").mkdir()
+    (room / "bag/bagit.txt").touch()
     (room / "altered").write_bytes(data[:BRAKE_OF_7] + b"\1" + data[BRAKE_OF_7 + 1:])
     (room / "damaged").write_bytes(data[:FIRST_OF_1] + b"\xff" + data[FIRST_OF_1 + 1:])
     (room / "empty").write_bytes(bytes(len(data)))
@@ -135,7 +139,7 @@ def rooms(room, etcs, env):
     (room / "events.jsonl").write_text(run(env["GAKNIFUR_ETCS_LAB"], "events", "image"))
     run(TOP / "lab", "seal", "image", "sealed")
     shutil.copytree(room / "sealed", room / "broken")
-    (room / "broken/data/image").write_bytes(data[:-1] + b"\1")
+    (room / "broken/image").write_bytes(data[:-1] + b"\1")
     run(TOP / "lab", "campaign", "good", "good.db")
 
 

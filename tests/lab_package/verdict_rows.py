@@ -45,7 +45,7 @@ def altered(rows, room):
     data = dict(examples())["example trip"]
     rows.same("the byte of the brake", data[BRAKE_OF_7], 0)
     image.write_bytes(patched(data, BRAKE_OF_7, b"\1"))
-    for words, out in ((["report"], "a.html"), (["database"], "a.db"), (["table"], "a.csv"), (["seal"], "a.bag")):
+    for words, out in ((["report"], "a.html"), (["database"], "a.db"), (["table"], "a.csv"), (["seal"], "a.seal")):
         _, said, status = run(*words, image, room / out)
         rows.same(f"{words[0]} of an altered journal", (status, DIFFERS in said), (4, True))
     rows.unless(DIFFERS in (room / "a.html").read_text(), "no sign in the report")
@@ -59,21 +59,21 @@ def implausible(rows, room):
     text, _, status = run("check", image)
     rows.same("lab check", (status, MOVED in text), (4, True))
     sentence = next(line for line in text.splitlines() if line.startswith(MOVED))
-    for words, out in ((["report"], "i.html"), (["database"], "i.db"), (["seal"], "i.bag")):
+    for words, out in ((["report"], "i.html"), (["database"], "i.db"), (["seal"], "i.seal")):
         _, said, status = run(*words, image, room / out)
         rows.same(f"{words[0]} of an implausible journal", (status, sentence in said), (4, True))
-    for path in (room / "i.html", room / "i.bag/data/report.html"):
+    for path in (room / "i.html", room / "i.seal/report.html"):
         rows.unless(sentence in path.read_text(), f"{path.name}: no sign of it")
         rows.unless(program.reader() in path.read_text(), f"{path.name}: doesn't say by what it was read")
-    for path in (room / "i.db", room / "i.bag/data/journal.db"):
+    for path in (room / "i.db", room / "i.seal/journal.db"):
         with sqlite3.connect(path) as connection:
             rows.same(f"{path.name}: findings", connection.execute("SELECT what, life, says FROM implausible").fetchall(), [("standing", 1, sentence)])
             proved = program.reader_is_proved()
             rows.same(f"{path.name}: reader", connection.execute("SELECT reader, reader_is_proved FROM image").fetchone(),
                       (program.reader(), None if proved is None else int(proved)))
-    text, said, status = run("verify", room / "i.bag")
-    rows.same("verify", (status, said.strip(), f"sealed by lab {program.version()}" in text, program.PROOF[program.reader_is_proved()] in text or "with a proved etcs_lab" in text),
-              (4, f"lab: {room}/i.bag/data/image: {sentence}", True, True))
+    text, said, status = run("verify", room / "i.seal")
+    rows.same("verify", (status, said.strip(), f"with lab {program.version()}; {program.PROOF[program.reader_is_proved()]}\n" in text),
+              (4, f"lab: {room}/i.seal/image: {sentence}", True))
 
 
 BRAKED = """\
@@ -92,7 +92,7 @@ def honest(rows, room):
     image.write_bytes(dict(examples())["example trip"])
     whose = "unit: 17\nvehicle: 402 001\n"
     (room / "honest.identity").write_text(whose)
-    for words, out in ((["report"], "h.html"), (["database"], "h.db"), (["seal"], "h.bag"), (["table"], "h.xlsx")):
+    for words, out in ((["report"], "h.html"), (["database"], "h.db"), (["seal"], "h.seal"), (["table"], "h.xlsx")):
         _, said, status = run(*words, image, room / out)
         rows.same(f"{words[0]} of an honest journal", (status, said), (0, ""))
     rows.same("why of an honest journal", (run("why", image)[0].splitlines()[-6:], run("why", image, 6)[::2]), (BRAKED, ("""event 6: brake none, limit 58.714 km/h, speed 30 km/h
@@ -101,25 +101,25 @@ def honest(rows, room):
 """, 0)))
     rows.same("why of a broken way", run("why", image)[1:], (f"lab: {image}: the train braked less than its train data promise: life 1, event 8, in way\n", 4))
     rows.unless("Implausible" not in (room / "h.html").read_text(), "the report finds something")
-    for page in ("h.html", "h.bag/data/report.html"):
+    for page in ("h.html", "h.seal/report.html"):
         rows.unless("unit 17, vehicle 402 001, by the file next to the image" in (room / page).read_text(), f"{page} doesn't say whose it is")
-    for name in ("h.db", "h.bag/data/journal.db"):
+    for name in ("h.db", "h.seal/journal.db"):
         with sqlite3.connect(room / name) as connection:
             rows.same(f"{name}: whose it is", connection.execute("SELECT unit, vehicle, software FROM image").fetchall(), [("17", "402 001", None)])
             # 15 km/h, and 27 m from 300 m to 327 m; 0.7 m/s2 stops it in 12.41 m
             rows.same(f"{name}: braking", connection.execute("SELECT first_event, brake, answer, until, way_least_cm, way_most_cm, promised_cm, way FROM braking").fetchall(),
                       [(0, "emergency", "standing", "released", None, None, None, None), (8, "emergency", "stopped", "standstill", 2_700, 2_700, 1_241, "broken")])
-    rows.same("the identity in the bag", (room / "h.bag/data/image.identity").read_text(), whose)
-    rows.same("verify", run("verify", room / "h.bag")[2], 0)
-    (room / "h.bag/data/image.identity").write_text("unit: 18\n")
-    rows.same("verify an altered identity", run("verify", room / "h.bag")[2], 4)
+    rows.same("the identity in the seal", (room / "h.seal/image.identity").read_text(), whose)
+    rows.same("verify", run("verify", room / "h.seal")[2], 0)
+    (room / "h.seal/image.identity").write_text("unit: 18\n")
+    rows.same("verify an altered identity", run("verify", room / "h.seal")[2], 4)
     import openpyxl
     notes = [row[0] for row in openpyxl.load_workbook(room / "h.xlsx")["notes"].iter_rows(values_only=True)]
     rows.unless(f"read by {program.reader()}" in notes, f"the workbook doesn't say by what it was read: {notes}")
 
 
 COMMANDS = ("check image", "table image out.csv", "database image out.db", "why image",
-            "report image out.html", "seal image bag", "verify bag")
+            "report image out.html", "seal image sealed", "verify sealed")
 """The commands that take altered images in turn; the last two take the same one."""
 COUNT, LEAST = 44, 10
 """The number of altered images, and how many of them a replay finds at the least."""

@@ -242,18 +242,17 @@ JOURNAL = [
             "the train data promise, or `lab check` finds something.", "why image 120",
             IMAGE, Argument("event", "[EVENT]", "the number of one event (default: each brake command)", NATURAL, required=False), SLOTS, JSON_LINES)]
 EVIDENCE = [
-    Command("seal", "cli.evidence_commands:seal_image", "Seal an image with all reports about it in a folder of evidence",
+    Command("seal", "cli.evidence_commands:seal_image", "Seal an image with table, database and report in a folder of evidence",
             "Reads the image once and never writes to it. FOLDER has to be new. Status 4: the folder is made, and something in the image is lost, "
             "damaged, contradictory or implausible, or the replay differs.", 'seal image evidence --by "J. Smith"',
             IMAGE, Argument("folder", "FOLDER", "the folder to make"), option("--by", "who seals it (default: the user of this machine)", "TEXT"),
             option("--medium", "the medium that the image was read from", "TEXT"),
-            option("--ssh-key", "sign with this OpenSSH key (ssh-keygen -Y sign)", "FILE"), option("--gpg-key", "sign with this OpenPGP key (gpg)", "NAME")),
-    Command("verify", "cli.evidence_commands:verify_bag", "Verify a folder of evidence, and list what was altered",
-            "Status 4: a file was altered or is missing, a signature isn't valid, or the verdict of the image has a sentence.", "verify evidence",
+            option("--ssh-key", "sign with this OpenSSH key (ssh-keygen -Y sign)", "FILE", PATH)),
+    Command("verify", "cli.evidence_commands:verify_seal", "Verify a folder of evidence, and list what was altered",
+            "Prints what ssh-keygen and sha512sum print, makes table, database and report again, and compares. Status 4: a file was altered or is "
+            "missing, no named signer signed it, or the verdict of the image has a sentence.", "verify evidence",
             Argument("folder", "FOLDER", "a folder that `lab seal` made"),
-            option("--signers", "allowed OpenSSH signers (see ssh-keygen(1)); one of them must have signed", "FILE", PATH),
-            option("--keyring", "OpenPGP public keys, not armored; one of them must have signed", "FILE", PATH),
-            option("--authority", "certificates of time stamp authorities; one of them must have stamped it", "FILE", PATH))]
+            option("--signers", "allowed OpenSSH signers (see ssh-keygen(1)); one of them must have signed", "FILE", PATH))]
 TESTING = [
     Command("build", "cli.testing_commands:write_scenario", "Compile a YAML scenario to the JSON that `etcs run` reads",
             "Errors name the file, line and column.", "build drive.yaml drive.json",

@@ -10,23 +10,17 @@ from .journal_commands import say_verdict
 
 def seal_image(given: SimpleNamespace, progress: Progress) -> int:
     """Runs `lab seal`."""
-    from ..evidence import seal, signing
-    keys = [signing.Key(kind, name) for kind, name in (("ssh", given.ssh_key), ("openpgp", given.gpg_key)) if name]
-    found, judged = seal.seal(given.image, given.folder, seal.Sealing(given.by, given.medium, keys), progress)
-    sys.stdout.write(f"sealed {shown(found['image']['name'])}, {found['image']['bytes']} bytes, by {shown(found['by'])}\n"
-                     f"sha256 {found['image']['sha256']}\n")
+    from ..evidence import seal
+    found, judged = seal.seal(given.image, given.folder, given.by, given.medium, given.ssh_key, progress)
+    sys.stdout.write(f"sealed {found['image']['name']}, {found['image']['bytes']} bytes, by {found['by']}\nsha256 {found['image']['sha256']}\n")
     sys.stdout.flush()
     return say_verdict(given.image, judged)
 
 
-def verify_bag(given: SimpleNamespace, progress: Progress) -> int:
+def verify_seal(given: SimpleNamespace, progress: Progress) -> int:
     """Runs `lab verify`."""
-    from ..evidence import bag, seal, signing
-    found = seal.verify(given.folder, signing.Trust(given.signers, given.keyring, given.authority))
-    for word, lines in (("altered", found.faults), ("unsigned", found.unsigned), ("shown", found.shown), ("not shown", found.not_shown)):
-        sys.stdout.writelines(f"{shown(f'{word}: {line}')}\n" for line in lines)
-    what = "the bag is{} as it was sealed"
-    unsure = f"whether {what.format('')} isn't shown"
-    sys.stdout.write((unsure if found.unsigned and not found.faults else what.format(" not" if found.faults else "")) + "\n")
+    from ..evidence import seal
+    found = seal.verify(given.folder, given.signers, progress)
+    sys.stdout.writelines(f"{shown(line)}\n" for line in found.lines)
     sys.stdout.flush()
-    return max(say_verdict(given.folder / bag.PAYLOAD / seal.IMAGE, found.image), FOUND if found.faults or found.unsigned else 0)
+    return max(say_verdict(given.folder / seal.IMAGE, found.image), FOUND if found.is_refused else 0)

@@ -1,1 +1,1 @@
-"""Sealed copies of images, and signatures."""
+"""Seals of images, and whose an image is."""

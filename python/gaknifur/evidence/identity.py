@@ -1,14 +1,13 @@
 """Read whose an image is: a text file next to it, with a line each for `unit`, `vehicle` and `software`, such as
 `unit: 17`. The unit's host writes it. It is outside the journal and outside the proof, and no power-up reads it.
 """
+import os
 from dataclasses import asdict, dataclass
 from pathlib import Path
 from typing import Self
 
-from .. import files
 from ..escaping import shown
-from ..program import REFUSED, Failed
-from . import formats
+from ..program import REFUSED, Failed, naming
 
 ENDING = ".identity"
 MOST = 4_096
@@ -48,15 +47,12 @@ def path_of(image: Path) -> Path:
 def of(image: Path) -> Identity | None:
     """Whose an image is; None if there is no file."""
     path = path_of(image)
-    if not formats.is_there(path):
+    if not os.path.lexists(path):
         return None
-    try:
-        return Identity.parsed(formats.text_of(path, MOST))
-    except (formats.Unfit, ValueError) as error:
-        raise Failed(f"{path}: {error}", REFUSED) from error
-
-
-def keep(image: Path, copy: Path) -> None:
-    """Copies the identity of an image to a copy of it."""
-    if of(image) is not None:
-        files.write_new(path_of(copy), files.bytes_of(path_of(image)))
+    with naming(path):
+        if path.is_symlink() or not path.is_file() or path.stat().st_size > MOST:
+            raise Failed(f"{path}: isn't a regular file of at most {MOST} bytes", REFUSED)
+        try:
+            return Identity.parsed(path.read_text(encoding="utf-8"))
+        except ValueError as error:
+            raise Failed(f"{path}: {error}", REFUSED) from error

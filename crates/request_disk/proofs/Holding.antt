@@ -1,10 +1,12 @@
 -- Sectors that are held.
-use Rattle.std.proofs.Common.{◌≡◌, ℕ, ◌+◌, ◌*◌, ◌<◌, ◌≤◌, ◌==◌, Bool, true, false, cond, not, ◌||◌, List, [], ◌∷◌, ◌++◌, length, map, take, drop, get_or, refl, sym, ◌∙◌, ap, subst, arith, rules, lit<, suc, Option, Some, None, is_some}
+use Rattle.std.proofs.Common.{◌≡◌, ⊎_elim, ℕ, ◌+◌, ◌*◌, ◌<◌, ◌≤◌, ◌==◌, Bool, true, false, cond, not, ◌||◌, List, [], ◌∷◌, ◌++◌, length, map, take, drop, get_or, refl, sym, ◌∙◌, ap, subst, arith, rules, lit<, suc, Option, Some, None, is_some}
 use Rattle.std.specs.Prelude.{All, IfSome, nat_lt, position, if◌then◌else◌}
-use Rattle.std.specs.List.{position_or_len, AllByRecursion}
+use Rattle.std.specs.List.{position_or_len, list_any, AllByRecursion}
+use Rattle.std.proofs.lemmas.Bool.{cases_Bool}
 use Rattle.std.proofs.lemmas.Bool.Decides.{nat_tests}
-use Rattle.std.proofs.lemmas.List.{length-map, map_push, drop-map}
-use Rattle.std.proofs.lemmas.List.Elements.{All-get_or, All-weaker, All-map, All-push, All-drop, recursion_from_All, All-from_recursion}
+use Rattle.std.proofs.lemmas.List.{length-map, map_push, drop-map, take-map, map-append, take-append-drop, take_at, drop_at}
+use Rattle.std.proofs.lemmas.List.Folds.{list_any-append}
+use Rattle.std.proofs.lemmas.List.Elements.{All-get_or, All-weaker, All-map, All-push, All-append, All-take, All-drop, recursion_from_All, All-from_recursion}
 use Rattle.std.proofs.lemmas.List.Quantifiers.{position-Some}
 use Rattle.disk.specs.State.{sector_of, contents_of}
 use Rattle.disk.specs.Record.{IsWithin, bytes_at, trace_of}
@@ -28,6 +30,54 @@ place_same s known =
     let e : position_or_len p (map f known) ≡ position_or_len (λ k. p (f k)) known = length_same p f known in
     let l : length (map f known) ≡ length known = length-map known f in
     sym (λ i. is_some (cond (nat_lt (e i) (l i)) (Some (e i)) None))
+
+-- whether one is held doesn't go by the place at which they begin
+some_there : (b : Bool) (i : ℕ) → is_some (cond b (Some i) None) ≡ b
+some_there true i = refl
+some_there false i = refl
+
+before_end : (b : Bool) (m n : ℕ) (r : Bool) → nat_lt m n ≡ r → nat_lt (cond (not b) (1 + m) 0) (suc n) ≡ (b || r)
+before_end true m n r is = grind (arith, nat_tests)
+before_end false m n r is = ⊎_elim
+    (λ (yes : nat_lt m n ≡ true). let next : nat_lt (1 + m) (suc n) ≡ true = grind (arith, nat_tests, yes) in next ∙ sym yes ∙ is)
+    (λ (no : nat_lt m n ≡ false). let next : nat_lt (1 + m) (suc n) ≡ false = grind (arith, nat_tests, no) in next ∙ sym no ∙ is)
+    (cases_Bool (nat_lt m n))
+
+any_before_end : {X : Type 0} (p : X → Bool) (xs : List X) → nat_lt (position_or_len p xs) (length xs) ≡ list_any p xs
+any_before_end p [] = refl
+any_before_end p (x ∷ xs) = before_end (p x) (position_or_len p xs) (length xs) (list_any p xs) (any_before_end p xs)
+
+any_there : {X : Type 0} (p : X → Bool) (xs : List X) → is_some (position p xs) ≡ list_any p xs
+any_there p xs = some_there (nat_lt (position_or_len p xs) (length xs)) (position_or_len p xs) ∙ any_before_end p xs
+
+or_turned : (a b : Bool) → (a || b) ≡ (b || a)
+or_turned true true = refl
+or_turned true false = refl
+or_turned false true = refl
+or_turned false false = refl
+
+any_turned : {X : Type 0} (p : X → Bool) (n : ℕ) (xs : List X) → list_any p xs ≡ list_any p (drop n xs ++ take n xs)
+any_turned p n xs =
+    ap (list_any p) (sym (take-append-drop n xs))
+    ∙ list_any-append p (take n xs) (drop n xs)
+    ∙ or_turned (list_any p (take n xs)) (list_any p (drop n xs))
+    ∙ sym (list_any-append p (drop n xs) (take n xs))
+
+pub has_turned : (s n : ℕ) (known : List Known) → is_some (position (λ k. k.sector == s) known) ≡ has_number s (numbers_of (drop n known ++ take n known))
+has_turned s n known =
+    let p : Known → Bool = λ k. k.sector == s in
+    any_there p known ∙ any_turned p n known ∙ sym (any_there p (drop n known ++ take n known)) ∙ place_same s (drop n known ++ take n known)
+
+pub all_turned : (P : Known → Type 0) (n : ℕ) (known : List Known) → All P (drop n known ++ take n known) → All P known
+all_turned P n known all =
+    let m : ℕ = length (drop n known) in
+    let first : All P (take n known) = subst (λ (l : List Known). All P l) (drop_at (drop n known) (take n known) m refl) (All-drop P m (drop n known ++ take n known) all) in
+    let rest : All P (drop n known) = subst (λ (l : List Known). All P l) (take_at (drop n known) (take n known) m refl) (All-take P m (drop n known ++ take n known) all) in
+    subst (λ (l : List Known). All P l) (take-append-drop n known) (All-append P (take n known) (drop n known) first rest)
+
+pub map_turned : (f : Known → Known) (n : ℕ) (known : List Known) → drop n (map f known) ++ take n (map f known) ≡ map f (drop n known ++ take n known)
+map_turned f n known =
+    (λ i. drop-map f n known i ++ take-map f n known i) ∙ sym (map-append f (drop n known) (take n known))
 
 -- the sector at that place holds the medium's bytes
 pub held_at : (sectors : ℕ) (medium : List ℕ) (known : List Known) (s i : ℕ) (d : Known) → position (λ k. k.sector == s) known ≡ Some i

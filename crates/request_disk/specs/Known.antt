@@ -1,9 +1,10 @@
 -- Sectors that are held with their bytes (this project's profile). Sectors have 512 bytes and are numbered from 0.
-use Rattle.std.specs.Prelude.{◌≡◌, ℕ, ◌<◌, ◌≤◌, ◌==◌, ◌∷◌, ◌++◌, [], Bool, if◌then◌else◌, List, Vec, length, map, take, drop, position, Option, Some, None, is_some, vec_len, vec_capacity}
+use Rattle.std.specs.Prelude.{◌≡◌, ℕ, ◌<◌, ◌≤◌, ◌==◌, ◌∷◌, ◌++◌, [], Bool, if◌then◌else◌, List, length, map, take, drop, position, Option, Some, None, is_some, vec_len, vec_capacity}
 use Rattle.disk.specs.State.{sector_of}
 use Rattle.disk.specs.declared.record.Call.{Call}
 use Rattle.request_disk.specs.Requests.{found_in}
 use Rattle.request_disk.specs.declared.known.Known.{Known}
+use Rattle.request_disk.specs.declared.known.KnownSectors.TheInside.{Inside}
 
 -- their numbers
 abbrev pub numbers_of : List Known → List ℕ
@@ -13,9 +14,16 @@ numbers_of known = map (λ k. k.sector) known
 abbrev pub has_number : ℕ → List ℕ → Bool
 has_number s numbers = is_some (position (λ number. number == s) numbers)
 
--- there is space for 16, and there are no more
-abbrev pub HasSpace : {X Z : Type 0} → Vec X Z → Type 0
-HasSpace known = (vec_len known ≤ 16) × (16 ≤ vec_capacity known)
+-- from the one that came first on
+abbrev pub in_order : Inside → List Known
+in_order known = drop known.oldest known.entries.items ++ take known.oldest known.entries.items
+
+-- there is space for 16, and there are no more; while there are fewer, the first stands first
+pub record IsKnown (known : Inside) : Type 0 where
+  pub few : vec_len known.entries ≤ 16
+  pub space : 16 ≤ vec_capacity known.entries
+  pub within : known.oldest < 16
+  pub first : vec_len known.entries < 16 → known.oldest ≡ 0
 
 -- with space for one more: where there are 16 the first of them is forgotten
 abbrev pub with_space : {X : Type 0} → List X → List X

@@ -7,7 +7,7 @@ use Rattle.disk.specs.declared.record.Call.{Call}
 use Rattle.disk.specs.declared.record.Call.TheVariants.{Written}
 use Rattle.request_disk.specs.Requests.{IsRequest, found_in}
 use Rattle.request_disk.specs.Medium.{with_sectors, carried}
-use Rattle.request_disk.specs.Known.{has_number, with_number, HasSpace, IsHeld}
+use Rattle.request_disk.specs.Known.{has_number, with_number, IsHeld}
 use Rattle.request_disk.specs.declared.requesting.RequestDisk.TheInside.{Inside}
 
 -- How many sectors the medium has, the bytes that it held when its list of requests was last empty, the sectors whose
@@ -55,12 +55,10 @@ pub record IsRequesting (d : Requesting) : Type 0 where
   pub only : All IsRequest d.requests
   pub none : length d.requests ≡ 0 → length d.written ≡ 0
 
--- The same of its fields. What it holds is the medium's, and the space for 16 sectors, 16 requests and 8,192 bytes was
--- taken.
+-- The same of its fields. What it holds is the medium's, and the space for 16 requests and 8,192 bytes was taken.
 pub record IsKept (m : Inside) : Type 0 where
   pub whole : length m.medium.bytes ≡ 512 * m.sectors
-  pub held : All (IsHeld m.sectors m.medium.bytes) m.known.items
-  pub held_fit : HasSpace m.known
+  pub held : All (IsHeld m.sectors m.medium.bytes) m.known
   pub within : All (IsWithin m.sectors (vec_len m.written)) m.requests.items
   pub only : All IsRequest m.requests.items
   pub none : vec_len m.requests ≡ 0 → vec_len m.written ≡ 0

@@ -1,12 +1,15 @@
 //! Sectors whose bytes are known.
-ghost use Rattle.std.specs.Prelude.{◌≡◌, ◌==◌, ℕ, ◌*◌, ◌∷◌, ◌++◌, [], false, length, List, map, position, All, IfSome, is_some};
+ghost use Rattle.std.specs.Prelude.{◌≡◌, ℕ, ◌*◌, ◌==◌, ◌∷◌, ◌++◌, [], false, length, List, map, position, All, IfOk, IfSome, is_some};
 ghost use Rattle.disk.specs.State.{sector_of};
 ghost use Rattle.disk.specs.Record.{IsWithin};
 ghost use Rattle.request_disk.specs.Medium.{carried};
-ghost use Rattle.request_disk.specs.Known.{numbers_of, has_number, with_number, HasSpace, IsHeld, with_space, renewed};
+ghost use Rattle.request_disk.specs.Known.{numbers_of, has_number, with_number, IsHeld, with_space, renewed};
 
 use crate::requests::found;
 use disk::{Call, SECTOR_BYTES};
+use std::alloc::Global;
+use std::marker::Model;
+use units::NoMemory;
 
 /// How many sectors are held at most. A block has six.
 pub const MOST_KNOWN: usize = 16;
@@ -20,31 +23,24 @@ pub struct Known {
     pub bytes: [u8; SECTOR_BYTES],
 }
 
-// Adds one after the others; where there are 16, the first of them goes.
-fn add(known: &mut Vec<Known>, entry: Known)
-    requires { HasSpace known.old }
-    ensures items { known.new.items ≡ with_space known.old.items ++ entry ∷ [] }
-    ensures space { HasSpace known.new }
-{
-    if known.len() == MOST_KNOWN {
-        known.remove(0);
-    }
-    known.push(entry).unwrap();
+/// The sectors that are held, from the one that came first on. It takes all its memory where it is made.
+#[derive(Drop)]
+pub struct KnownSectors {
+    entries: Vec<Known>,
+    // The place of the one that came first: a later one takes it, and those after it came next, then those from 0 on.
+    oldest: usize,
 }
 
-/// Holds one sector more; where there are 16, the one that came first goes. It takes no memory. The caller owes space
-/// for 16.
-pub fn hold(known: &mut Vec<Known>, entry: Known)
-    requires { HasSpace known.old }
-    ensures numbers { numbers_of known.new.items ≡ with_number entry.sector (numbers_of known.old.items) }
-    ensures space { HasSpace known.new }
+impl Model for KnownSectors {
+    ghost use Rattle.std.specs.Prelude.{List};
+    ghost use Rattle.request_disk.specs.declared.known.Known.{Known};
+    ghost use Rattle.request_disk.specs.Known.{in_order, IsKnown};
 
-    // What was held stays, and this sector is held, on a medium that differs in no other one.
-    ensures held { (sectors : ℕ) (medium after : List ℕ) → has_number entry.sector (numbers_of known.old.items) ≡ false →
-        ((t : ℕ) → (t == entry.sector) ≡ false → sector_of after t ≡ sector_of medium t) → IsHeld sectors after entry →
-        All (IsHeld sectors medium) known.old.items → All (IsHeld sectors after) known.new.items }
-{
-    add(known, entry);
+    ghost Value = { List Known };
+
+    ghost view = { in_order };
+
+    ghost invariant = { IsKnown };
 }
 
 // The first place of a sector among these.
@@ -52,26 +48,6 @@ fn place_in(known: &[Known], sector: u64) -> Option<usize>
     ensures { result ≡ position (λ k. k.sector == sector) known.now }
 {
     known.iter().position(|entry| entry.sector == sector)
-}
-
-/// Whether a sector is held.
-pub fn has(known: &[Known], sector: u64) -> bool
-    ensures { result ≡ has_number sector (numbers_of known.now) }
-{
-    place_in(known, sector).is_some()
-}
-
-/// What is held of a sector, None where it isn't.
-pub fn held_of(known: &[Known], sector: u64) -> Option<&[u8]>
-    ensures known { is_some result ≡ has_number sector (numbers_of known.now) }
-    ensures size { IfSome result (λ bytes. length bytes.now ≡ 512) }
-    ensures bytes { (sectors : ℕ) (medium : List ℕ) → All (IsHeld sectors medium) known.now →
-        IfSome result (λ bytes. bytes.now ≡ sector_of medium sector) }
-{
-    match place_in(known, sector) {
-        Some(place) => Some(&known[place].bytes),
-        None => None,
-    }
 }
 
 // Carries the requests out on one.
@@ -94,13 +70,69 @@ fn renew(known: &mut [Known], written: &[u8], requests: &[Call], sectors: u64)
     }
 }
 
-/// Carries the requests out on what is held. The caller owes requests whose sectors and bytes are there.
-pub fn carry(known: &mut Vec<Known>, written: &[u8], requests: &[Call], sectors: u64)
-    requires { All (IsWithin sectors (length written.now)) requests.now }
-    ensures numbers { numbers_of known.new.items ≡ numbers_of known.old.items }
-    ensures held { (medium : List ℕ) → length medium ≡ 512 * sectors → All (IsHeld sectors medium) known.old.items →
-        All (IsHeld sectors (carried written.now medium requests.now)) known.new.items }
-    ensures space { HasSpace known.old → HasSpace known.new }
-{
-    renew(known, written, requests, sectors);
+impl KnownSectors {
+    /// None is held yet. NoMemory where there is none for 16.
+    pub fn new(alloc: Global) -> Result<KnownSectors, NoMemory>
+        ensures { IfOk result (λ known. known ≡ []) }
+    {
+        Ok(KnownSectors {
+            entries: Vec::with_capacity(alloc, MOST_KNOWN)?,
+            oldest: 0,
+        })
+    }
+
+    // Adds one after the others; where there are 16, it takes the place of the first.
+    fn add(&mut self, entry: Known)
+        ensures { self.new ≡ with_space self.old ++ entry ∷ [] }
+    {
+        if self.entries.len() < MOST_KNOWN {
+            self.entries.push(entry).unwrap();
+            return;
+        }
+        self.entries[self.oldest] = entry;
+        self.oldest = (self.oldest + 1) % MOST_KNOWN;
+    }
+
+    /// Holds one sector more; where there are 16, the one that came first goes.
+    pub fn hold(&mut self, entry: Known)
+        ensures numbers { numbers_of self.new ≡ with_number entry.sector (numbers_of self.old) }
+
+        // What was held stays, and this sector is held, on a medium that differs in no other one.
+        ensures held { (sectors : ℕ) (medium after : List ℕ) → has_number entry.sector (numbers_of self.old) ≡ false →
+            ((t : ℕ) → (t == entry.sector) ≡ false → sector_of after t ≡ sector_of medium t) → IsHeld sectors after entry →
+            All (IsHeld sectors medium) self.old → All (IsHeld sectors after) self.new }
+    {
+        self.add(entry);
+    }
+
+    /// Whether a sector is held.
+    pub fn has(&self, sector: u64) -> bool
+        ensures { result ≡ has_number sector (numbers_of self.now) }
+    {
+        place_in(self.entries.as_slice(), sector).is_some()
+    }
+
+    /// What is held of a sector, None where it isn't.
+    pub fn bytes_of(&self, sector: u64) -> Option<&[u8]>
+        ensures known { is_some result ≡ has_number sector (numbers_of self.now) }
+        ensures size { IfSome result (λ bytes. length bytes.now ≡ 512) }
+        ensures bytes { (sectors : ℕ) (medium : List ℕ) → All (IsHeld sectors medium) self.now →
+            IfSome result (λ bytes. bytes.now ≡ sector_of medium sector) }
+    {
+        let known = self.entries.as_slice();
+        match place_in(known, sector) {
+            Some(place) => Some(&known[place].bytes),
+            None => None,
+        }
+    }
+
+    /// Carries the requests out on what is held. The caller owes requests whose sectors and bytes are there.
+    pub fn carry(&mut self, written: &[u8], requests: &[Call], sectors: u64)
+        requires { All (IsWithin sectors (length written.now)) requests.now }
+        ensures numbers { numbers_of self.new ≡ numbers_of self.old }
+        ensures held { (medium : List ℕ) → length medium ≡ 512 * sectors → All (IsHeld sectors medium) self.old →
+            All (IsHeld sectors (carried written.now medium requests.now)) self.new }
+    {
+        renew(&mut self.entries, written, requests, sectors);
+    }
 }

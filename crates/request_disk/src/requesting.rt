@@ -4,7 +4,7 @@ ghost use Rattle.disk.specs.State.{contents_of, sector_of, AreSectors, Counted, 
 ghost use Rattle.disk.specs.Reserve.{Spends};
 ghost use Rattle.disk.specs.Record.{IsWithin};
 
-use crate::known::{Known, MOST_KNOWN, carry, has, held_of, hold};
+use crate::known::{Known, KnownSectors};
 use crate::medium::Medium;
 use crate::requests::found;
 use disk::{Call, DiskFault, SECTOR_BYTES, Span, WriteDisk};
@@ -27,7 +27,7 @@ pub struct RequestDisk {
     // What the medium held when the list was last empty.
     medium: Medium,
     // The same, as far as it is at hand: some sectors, from the one that came first on.
-    known: Vec<Known>,
+    known: KnownSectors,
     requests: Vec<Call>,
     // The bytes of the requests.
     written: Vec<u8>,
@@ -41,7 +41,7 @@ impl Model for RequestDisk {
 
     ghost Value = { Requesting };
 
-    ghost view = { λ m. record { sectors = m.sectors; medium = m.medium.bytes; known = numbers_of m.known.items; requests = m.requests.items; written = m.written.items; faults = m.faults; wanted = m.wanted } };
+    ghost view = { λ m. record { sectors = m.sectors; medium = m.medium.bytes; known = numbers_of m.known; requests = m.requests.items; written = m.written.items; faults = m.faults; wanted = m.wanted } };
 
     ghost invariant = { IsKept };
 }
@@ -61,7 +61,7 @@ impl RequestDisk {
         Ok(RequestDisk {
             sectors,
             medium: Medium::of(),
-            known: Vec::with_capacity(alloc, MOST_KNOWN)?,
+            known: KnownSectors::new(alloc)?,
             requests: Vec::with_capacity(alloc, MOST_REQUESTS)?,
             written: Vec::with_capacity(alloc, MOST_BYTES)?,
             faults: 0,
@@ -81,7 +81,7 @@ impl RequestDisk {
         ensures { result ≡ knows sector self.now }
     {
         found(&self.requests, sector, self.sectors, self.written.len()).is_some()
-            || has(&self.known, sector)
+            || self.known.has(sector)
     }
 
     /// Whether a sector is known; where it isn't, it is wanted from now on. A caller asks so for what a step will read
@@ -126,13 +126,10 @@ impl RequestDisk {
             from: 0,
         };
         self.medium.carry(bytes, &[Call::Written(span)]);
-        hold(
-            &mut self.known,
-            Known {
-                sector,
-                bytes: *bytes,
-            },
-        );
+        self.known.hold(Known {
+            sector,
+            bytes: *bytes,
+        });
     }
 
     /// How many requests there are since the list was last emptied. Where there is none, there is space for 16 units.
@@ -203,7 +200,8 @@ impl RequestDisk {
     {
         self.wanted = None;
         self.medium.carry(&self.written, &self.requests);
-        carry(&mut self.known, &self.written, &self.requests, self.sectors);
+        self.known
+            .carry(&self.written, &self.requests, self.sectors);
         self.requests.clear();
         self.written.clear();
     }
@@ -252,7 +250,7 @@ impl RequestDisk {
     {
         match found(&self.requests, sector, self.sectors, self.written.len()) {
             Some(at) => Some(&self.written[at..at + SECTOR_BYTES]),
-            None => held_of(&self.known, sector),
+            None => self.known.bytes_of(sector),
         }
     }
 }

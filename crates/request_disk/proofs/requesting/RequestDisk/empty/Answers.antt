@@ -28,13 +28,12 @@ module _ (c : goal.After-clear-2) where
 pub invariant_of-self : goal.invariant_of-self
 invariant_of-self c =
     let m = c.self.inside in
-    let W : List ℕ → List Call → Type 0 = λ w l. All (IsHeld m.sectors (carried w m.medium.bytes l)) c.carry-2.new.known.items in
+    let W : List ℕ → List Call → Type 0 = λ w l. All (IsHeld m.sectors (carried w m.medium.bytes l)) c.carry-2.new.self in
     let raw : W c.deref-3.result.now c.deref-4.result.now = c.carry-2.ensures.held m.medium.bytes c.self.invariant.whole c.self.invariant.held in
     let held : W (bytes c) (calls c) = subst (λ (w : List ℕ). W w (calls c)) c.deref-3.ensures.value (subst (λ (l : List Call). W c.deref-3.result.now l) c.deref-4.ensures.value raw) in
     record {
       whole = ap length (carries c) ∙ carried_size m.sectors m.medium.bytes (bytes c) (calls c) (within c) c.self.invariant.whole;
-      held = subst (λ (medium : List ℕ). All (IsHeld m.sectors medium) c.carry-2.new.known.items) (sym (carries c)) held;
-      held_fit = c.carry-2.ensures.space c.self.invariant.held_fit;
+      held = subst (λ (medium : List ℕ). All (IsHeld m.sectors medium) c.carry-2.new.self) (sym (carries c)) held;
       within = subst (λ (l : List Call). All (IsWithin m.sectors (vec_len c.clear-2.new.self)) l) (sym c.clear.ensures.items) (All-nil (IsWithin m.sectors (vec_len c.clear-2.new.self)));
       only = subst (λ (l : List Call). All IsRequest l) (sym c.clear.ensures.items) (All-nil IsRequest);
       none = λ _. c.clear-2.ensures.len;

@@ -17,7 +17,7 @@ module _ (c : goal.After-hold) where
   w = record {
     sectors = c.self.inside.sectors;
     medium = c.self.inside.medium.bytes;
-    known = numbers_of c.self.inside.known.items;
+    known = numbers_of c.self.inside.known;
     requests = c.self.inside.requests.items;
     written = c.self.inside.written.items;
     faults = c.self.inside.faults;
@@ -46,13 +46,12 @@ pub invariant_of-self-2 : goal.invariant_of-self-2
 invariant_of-self-2 c =
     let m = c.self.inside in let s = c.args.sector in
     let one : IsHeld m.sectors (next c) (unknown_sector c) = record { below = below c; bytes = sym (put_one m.sectors m.medium.bytes c.args.bytes.now s (below c) (size c) c.self.invariant.whole) } in
-    let held : All (IsHeld m.sectors (next c)) c.hold.new.known.items =
+    let held : All (IsHeld m.sectors (next c)) c.hold.new.self =
     c.hold.ensures.held m.sectors m.medium.bytes (next c) (unknown_held s (w c) (unknown c))
     (put_other m.sectors m.medium.bytes c.args.bytes.now s (below c) (size c) c.self.invariant.whole) one c.self.invariant.held in
     record {
       whole = ap length (carries c) ∙ put_size m.sectors m.medium.bytes c.args.bytes.now s (below c) (size c) c.self.invariant.whole;
-      held = subst (λ (medium : List ℕ). All (IsHeld m.sectors medium) c.hold.new.known.items) (sym (carries c)) held;
-      held_fit = c.hold.ensures.space;
+      held = subst (λ (medium : List ℕ). All (IsHeld m.sectors medium) c.hold.new.self) (sym (carries c)) held;
       within = c.self.invariant.within;
       only = c.self.invariant.only;
       none = c.self.invariant.none;
@@ -82,5 +81,5 @@ returns-clause-others c = λ s other.
 pub returns-clause-known : goal.returns-clause-known
 returns-clause-known c =
     let s = c.args.sector in
-    or_right (is_some (found_in s c.self.inside.requests.items)) (has_number s (numbers_of c.hold.new.known.items))
-    (ap (λ (numbers : List ℕ). has_number s numbers) c.hold.ensures.numbers ∙ has_added s (numbers_of c.self.inside.known.items))
+    or_right (is_some (found_in s c.self.inside.requests.items)) (has_number s (numbers_of c.hold.new.self))
+    (ap (λ (numbers : List ℕ). has_number s numbers) c.hold.ensures.numbers ∙ has_added s (numbers_of c.self.inside.known))

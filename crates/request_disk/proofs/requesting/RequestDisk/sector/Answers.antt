@@ -1,8 +1,5 @@
-use Rattle.std.proofs.Common.{◌≡◌, ℕ, ◌+◌, ◌-◌, List, take, drop, sym, ◌∙◌, ap, subst, arith, rules, Option, Some, None}
-use Rattle.std.specs.Prelude.{All}
+use Rattle.std.proofs.Common.{◌≡◌, ℕ, ◌+◌, ◌-◌, List, take, drop, sym, ◌∙◌, ap, arith, rules, Option, Some, None}
 use Rattle.disk.specs.State.{sector_of, contents_of}
-use Rattle.request_disk.specs.Known.{IsHeld}
-use Rattle.request_disk.specs.declared.known.Known.{Known}
 use Rattle.request_disk.specs.Requesting.{request_state}
 use Rattle.request_disk.specs.Requests.{found_in, reported_at}
 use Rattle.request_disk.proofs.Found.{bytes_now}
@@ -26,7 +23,6 @@ returns-in-None-clause-bytes c =
     let w = c.args.self.now in let s = c.args.sector in
     let none : None ≡ found_in s w.requests = search rules in
     let medium : c.self.inside.medium.bytes ≡ w.medium = search rules in
-    let all = subst (λ (l : List Known). All (IsHeld c.self.inside.sectors c.self.inside.medium.bytes) l) (sym c.deref-in-None.ensures.value) c.self.invariant.held in
     if_some _ (λ bytes. bytes.now ≡ sector_of c.self.inside.medium.bytes s) (λ bytes. bytes.now ≡ contents_of (request_state w) s)
     (λ bytes is. is ∙ ap (λ (l : List ℕ). sector_of l s) medium ∙ ap (λ (o : Option ℕ). reported_at w.medium w.written s o) none ∙ bytes_now w.medium w.written s w.requests)
-    c.held_of.result (c.held_of.ensures.bytes c.self.inside.sectors c.self.inside.medium.bytes all)
+    c.bytes_of.result (c.bytes_of.ensures.bytes c.self.inside.sectors c.self.inside.medium.bytes c.self.invariant.held)

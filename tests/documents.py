@@ -22,11 +22,11 @@ PROGRAMS = {name: Path(os.environ.get(name.upper()) or TOP / f"crates/{name}/out
 COMMANDS = {"../README": 3, "start/c": 9, "start/code": 8, "start/investigate": 10, "start/tests": 6, "howto/c-display": 2,
             "howto/c-flash": 2, "howto/c-guard": 2, "howto/c-journal": 6,
             "howto/c-loop": 2, "howto/c-static-memory": 2, "howto/closed-loop": 9,
-            "howto/coverage": 2, "howto/cpp": 2, "howto/damaged-image": 20, "howto/lint": 8,
-            "howto/oracle": 7, "howto/play": 5, "howto/python": 1, "howto/replay": 11,
-            "howto/report": 3, "howto/rust": 2, "howto/seal": 10, "howto/searching": 7,
-            "howto/sql": 15, "howto/tables": 6, "howto/telegrams": 4, "howto/time-of-day": 5,
-            "howto/why-did-it-brake": 9, "howto/write-test-cases": 17}
+            "howto/damaged-image": 20, "howto/languages": 5, "howto/lint": 8,
+            "howto/oracle": 7, "howto/replay": 11,
+            "howto/report": 7, "howto/seal": 10, "howto/searching": 7,
+            "howto/sql": 15, "howto/telegrams": 4, "howto/time-of-day": 5,
+            "howto/why-did-it-brake": 9, "howto/write-test-cases": 22}
 """How many commands a document has, at least."""
 COMMAND = re.compile(r"^(    |)\$ ((?:.*\\\n)*.*\n(?:\1> .*\n)*)((?:(?!\1\$ |```)\1.*\n)*)", re.MULTILINE)
 FILE = re.compile(r"`~/([\w.]+)`:\n+```(?:c|python)\n(.*?)^```$", re.DOTALL | re.MULTILINE)

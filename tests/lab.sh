@@ -11,5 +11,5 @@ status=0
 python3 lab/image_rows.py "$lab" "$etcs" || status=1
 python3 lab/verdict_rows.py "$lab" || status=1
 ETCS=$etcs ETCS_LAB=$lab python3 documents.py ../README start/investigate howto/why-did-it-brake howto/damaged-image howto/replay howto/seal \
-    howto/time-of-day howto/report howto/tables howto/sql || status=1
+    howto/time-of-day howto/report howto/sql || status=1
 exit $status

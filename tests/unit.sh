@@ -341,6 +341,6 @@ for program in "$made"/refused.*; do "$python" "$top/tests/unit/refused_lives.py
     { cat "$made/said"; fails "python/tests/test_{unit,guard}.py: failures, or other than 31 tests"; }
 "$python" "$top/tests/unit/integration.py" || status=1
 ETCS_LAB=$lab ETCS_UNIT_ARCHIVE=$raw "$python" "$top/tests/documents.py" start/c howto/c-loop howto/c-flash \
-    howto/c-static-memory howto/c-display howto/c-guard howto/c-journal howto/cpp howto/python howto/rust || status=1
+    howto/c-static-memory howto/c-display howto/c-guard howto/c-journal howto/languages || status=1
 echo "the unit: $([ $status -eq 0 ] && echo "no failures" || echo "failures, see above")"
 exit $status

@@ -1,4 +1,4 @@
-// Whether an image is whole, by the rule of `etcs_lab check` (crates/lab_examine/README.md) on what the calls
+// Whether an image is whole, by the rule of `etcs_lab check` (crates/image_lines/README.md) on what the calls
 // say of slots, heads and records: no call of the library answers it.
 import {END, Records} from "./calls";
 import {Facts, POWER_UP, Slot} from "./layouts";

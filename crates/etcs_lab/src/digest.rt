@@ -6,7 +6,7 @@ use blocks::read_first_sector;
 use command_line::LabImage;
 use disk::DiskFault;
 use file_disk::{RawFile, read_all};
-use lab_examine::FileFacts;
+use image_lines::FileFacts;
 use lab_play::digits_of;
 use sha2::{Digest, Sha256};
 

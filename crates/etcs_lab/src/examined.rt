@@ -3,23 +3,13 @@
 use crate::images::{Image, ImageDisk, opened, opened_whole};
 use crate::status::{Status, fail, no_memory, reported, unformatted, unread, unwritten};
 use command_line::LabImage;
-use lab_examine::{ExamineError, JsonExamination, Verdict, examine};
+use image_lines::{JsonExamination, JsonLines, TextLines, Verdict, examine};
 use lab_replay::{Outcome, WalkError, replay};
-use line_sinks::{JsonLines, TextLines};
 use std::alloc::Global;
 use std::fs::File;
 use std::io::Write;
 use std::rt::Files;
 use text_output::Form;
-
-// Says why an examination did not come to its end.
-fn unexamined<R: Eprint>(rt: &R, path: &str, error: ExamineError) -> Status {
-    match error {
-        ExamineError::Device => unread(rt, path),
-        ExamineError::Write => unwritten(rt, path),
-        ExamineError::NoMemory => no_memory(rt, path),
-    }
-}
 
 /// Says why a walk over an image did not come to its end.
 pub(crate) fn stopped<R: Eprint>(rt: &R, path: &str, error: WalkError) -> Status {
@@ -27,7 +17,7 @@ pub(crate) fn stopped<R: Eprint>(rt: &R, path: &str, error: WalkError) -> Status
         WalkError::DeviceFault => return unread(rt, path),
         WalkError::NotFormatted => return unformatted(rt, path),
         WalkError::Damaged => "does not have the size that its first sector says",
-        WalkError::NoMemory => "can't be replayed: out of memory",
+        WalkError::NoMemory => return no_memory(rt, path),
         WalkError::Write => return unwritten(rt, path),
     };
     fail(rt, what, path, Status::Refused)
@@ -45,7 +35,7 @@ fn examine_image<R: AllocGlobal + Eprint, W: Write>(
         Form::Json => examine(disk, file, &mut JsonExamination::new(rt.alloc(), out)),
         Form::People => examine(disk, file, &mut TextLines::new(out)),
     };
-    examined.map_err(|error| unexamined(rt, image.path, error))
+    examined.map_err(|error| stopped(rt, image.path, error))
 }
 
 // Replays the journal on a disk, and prints the lines.

@@ -6,7 +6,7 @@ use crate::progress::Progress;
 use crate::status::{Status, fail, unread};
 use command_line::LabImage;
 use file_disk::{FileDisk, ReadError, ReadOnlyFile};
-use lab_examine::FileFacts;
+use image_lines::FileFacts;
 use std::fs::File;
 use std::rt::Files;
 

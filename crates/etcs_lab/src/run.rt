@@ -1,9 +1,9 @@
 //! The command `run`.
 
 use crate::status::{Status, no_memory, unread_for, unwritten};
+use image_lines::JsonLines;
 use lab_play::{FaultPlace, fault_place};
 use lab_why::{LateError, PlayedLife, play};
-use line_sinks::JsonLines;
 use simulator::{Scenario, ScenarioFault, ends_of, events_of};
 use std::alloc::Global;
 use std::fs;

@@ -5,7 +5,7 @@ use crate::faults::FaultPlace;
 use crate::player::Source;
 use crate::request::LineFault;
 use events::{Brake, Indications, Output};
-use line_sinks::named_indications;
+use image_lines::named_indications;
 use mode_table::{Mode, TrainLevel};
 use scenario_player::{LiveError, Played, Released};
 use serde_json::Value;

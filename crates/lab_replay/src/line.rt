@@ -3,8 +3,7 @@
 use crate::serializing::{write_kept, write_kept_field, write_reason, write_record_field};
 use blocks::{Block, BlockRecord};
 use events::{Brake, Indications, Kept};
-use lab_events::{Reason, Stretch};
-use line_sinks::{write_brake, write_indications, write_level, write_mode};
+use image_lines::{Reason, Stretch, write_brake, write_indications, write_level, write_mode};
 use mode_table::{Mode, TrainLevel};
 use replaying::{Found, HeadFound, Judged, KeptField, RecordField};
 use serde::Serialize;

@@ -2,8 +2,7 @@
 
 use crate::line::{HeadLine, Outcome, RecordLine, ReplayLine, StretchLine};
 use crate::serializing::{KeptObject, kept_field_name, record_field_name};
-use lab_events::Reason;
-use line_sinks::describe_value;
+use image_lines::{Reason, describe_value};
 use std::fmt;
 
 fn reason_text(reason: Reason) -> &'static str {

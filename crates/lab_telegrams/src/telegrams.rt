@@ -3,11 +3,10 @@
 use command_line::lab_status::{Status, fail, no_memory, unwritten};
 use decoding::decode_text;
 use hex::FromHexError;
-use line_sinks::{JsonLines, LineSink};
+use image_lines::{Decoded, JsonLines, LineSink, decoded_of};
 use lives::LateError;
 use std::alloc::Global;
 use std::io::Write;
-use telegram_objects::{Decoded, decoded_of};
 
 /// The bytes of digits; else says why they are none.
 pub(crate) fn bytes_of<R: AllocGlobal + Eprint>(rt: &R, digits: &str) -> Result<Vec<u8>, Status> {

@@ -3,7 +3,7 @@
 use crate::course::Explanation;
 use crate::group::GroupLine;
 use events::{Event, Input};
-use lab_demands::{DemandLine, Train, demand_lines};
+use image_lines::{DemandLine, Train, demand_lines};
 use mode_table::Mode;
 use std::alloc::{AllocError, Global};
 use vars::{LinkOrientation, Variable};

@@ -3,7 +3,7 @@
 use crate::serializing::{
     write_direction, write_group_section, write_outcome, write_packet_name, write_reaction,
 };
-use line_sinks::write_mode;
+use image_lines::write_mode;
 use mode_table::Mode;
 use packet_uses::{Fate, fate_of};
 use packets::Packet;

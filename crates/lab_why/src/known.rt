@@ -7,8 +7,8 @@ use crate::known_lists::{
 use areas::AnnouncedLevel;
 use authority::{Authority, Release};
 use driver::{Datum, TrainData};
+use image_lines::{NationalObject, Status, TrainObject, write_level};
 use kernel::State;
-use line_sinks::{NationalObject, Status, TrainObject, write_level};
 use mode_table::TrainLevel;
 use odometry::Place;
 use reasons::Reasoning;

@@ -7,11 +7,9 @@ use crate::serializing::{
     CauseRuns, write_limit_cause, write_limit_section, write_trip_cause, write_trip_section,
 };
 use events::{Brake, Output};
+use image_lines::{DemandLine, Reason, Stretch, write_brake};
 use kernel::TripCause;
-use lab_demands::DemandLine;
-use lab_events::{Reason, Stretch};
 use lab_replay::{LostBlock, StretchLine, Verdict};
-use line_sinks::write_brake;
 use reasons::{LimitKind, LimitReport, Reasoning, Runs, TripReport};
 use serde::Serialize;
 

@@ -3,7 +3,7 @@
 use crate::played::{PlayLine, first_line, last_line};
 use crate::reporting::report_released;
 use events::Step;
-use line_sinks::LineSink;
+use image_lines::LineSink;
 use lives::LateError;
 use mode_table::Cold;
 use scenario_player::play_first;

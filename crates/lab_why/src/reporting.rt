@@ -4,7 +4,7 @@ use crate::ends::step_from;
 use crate::played::{PlayLine, output_line};
 use crate::playing::PlayedLife;
 use events::{Event, Kept, Step};
-use line_sinks::LineSink;
+use image_lines::LineSink;
 use lives::LateError;
 use onboard::Released;
 use reasons::Reasoning;

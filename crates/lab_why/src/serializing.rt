@@ -1,7 +1,7 @@
 //! The names of values in JSON (`docs/reference/json.md`).
 
+use image_lines::cold_name;
 use kernel::{BrakeCause, TripCause};
-use lab_events::cold_name;
 use mode_table::Cold;
 use reasons::{
     GroupKind, LimitKind, Runs, cause_name, group_name, group_section, limit_name, limit_section,

@@ -3,8 +3,8 @@
 use crate::group::{GroupLine, PacketLine, Unused};
 use crate::known::KnownLine;
 use crate::line::{Answer, Causes, EventLine, WhyLine};
+use image_lines::{LengthText, PlaceText, SpeedText, describe_lines};
 use kernel::BrakeCause;
-use line_sinks::{LengthText, PlaceText, SpeedText, describe_lines};
 use reasons::{
     ending, group_section, group_sentence, limit_section, limit_sentence, sentence, trip_section,
     trip_sentence,

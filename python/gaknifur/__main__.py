@@ -7,7 +7,7 @@ import click
 
 from .cli.commands import COMPLETE, lab
 from .cli.progress import Terminal
-from .errors import catch_termination, caught, say
+from .errors import caught, say
 from .escaping import shown
 from .program import WRONG_WORDS, Failed
 
@@ -39,7 +39,6 @@ def explain(error: click.UsageError) -> None:
 def main(given: Sequence[str] | None = None) -> int:
     """Runs a command; returns the exit status."""
     progress = Terminal()
-    catch_termination()
 
     def do() -> int:
         try:

@@ -18,6 +18,7 @@ def begin(what: Any) -> None:
     global shared
     shared = what
     signal.signal(signal.SIGINT, signal.SIG_IGN)
+    signal.signal(signal.SIGTERM, signal.SIG_DFL)
 
 
 @contextlib.contextmanager

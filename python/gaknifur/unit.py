@@ -26,7 +26,7 @@ from dataclasses import dataclass
 from pathlib import Path
 from typing import Protocol, Self
 
-from .locks import lock
+from .files import lock
 from .program import TOP
 from .units import _header
 from .units._header import (ABI, BUILD_INFO_BYTES, CATEGORY_NONE, OUTPUTS, REQUEST_BYTES, SECTOR, TELEGRAM_BYTES, VERSION_BYTES, Acknowledgement,

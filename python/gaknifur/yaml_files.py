@@ -15,7 +15,6 @@ from typing import Any
 
 import yaml
 
-from .files import opened
 from .program import REFUSED, Failed, naming
 
 NUMBER = re.compile(r"-?[0-9][0-9_]*(\.[0-9]+)?")
@@ -252,7 +251,7 @@ def check(path: Path, node: yaml.Node, sizes: dict[int, int]) -> int:
 
 def text_of(path: Path) -> str:
     """The text of a file."""
-    with naming(path), opened(path) as file:
+    with naming(path), path.open("rb") as file:
         data = file.read(MOST_BYTES + 1)
     if len(data) > MOST_BYTES:
         raise Failed(f"{path}: has more than {MOST_BYTES:,} bytes", REFUSED)

@@ -4,7 +4,6 @@ import io
 import multiprocessing
 import os
 import re
-import socket
 import sqlite3
 import subprocess
 import sys
@@ -31,8 +30,7 @@ from gaknifur.unit import Medium, MemoryMedium
 from .samples import InFolder, journal, record
 
 TOP = Path(__file__).resolve().parents[2]
-IMAGE = files.IMAGE_MARK + bytes(504)
-TABLE = b"block,event,life,stretch,kind,time_ms,mode,level\n"
+IMAGE = layout.MARK + bytes(504)
 NAMES = ("a#b", "a?b", "a%41", "a b\n", "a'b\"", os.fsdecode(b"a\xff"), "\u202ea")
 
 
@@ -59,13 +57,6 @@ class Room(InFolder):
         """What the folder has."""
         return sorted(path.name for path in self.room.iterdir())
 
-    def refuses(self, message: str, out: Out, *inputs: Path) -> None:
-        """A file isn't written, and nothing is left next to it."""
-        before = self.names()
-        with self.assertRaisesRegex(Failed, message) as caught:
-            files.write(out, b"new", inputs)
-        self.assertEqual((caught.exception.status, self.names()), (REFUSED, before))
-
 
 class Writing(Room):
     """What is written, and what isn't."""
@@ -76,109 +67,70 @@ class Writing(Room):
             self.assertEqual((self.room / name).read_bytes(), b"new")
         self.assertEqual(self.names(), sorted(NAMES))
 
-    def test_an_existing_file_only_with_force_whoever_made_it(self) -> None:
-        for data in (b"", b"text", TABLE, b"point,my own notes\n", b'{"datetime": "mine"}\n', b"SQLite format 3\0"):
+    def test_an_existing_file_is_replaced_with_force_whoever_made_it(self) -> None:
+        for data in (b"", b"text", b"point,my own notes\n", b"SQLite format 3\0"):
             path = self.file("out", data)
-            self.refuses("out: already exists; --force overwrites it", Out(path))
-            self.assertEqual(path.read_bytes(), data)
             path.chmod(0o640)
             files.write(Out(path, True), b"new")
-            self.assertEqual((path.read_bytes(), path.stat().st_mode & 0o777), (b"new", 0o640))
+            self.assertEqual((path.read_bytes(), path.stat().st_mode & 0o777, self.names()), (b"new", 0o640, ["out"]))
 
-    def test_one_file_and_not_its_other_names(self) -> None:
-        path = self.file("out", TABLE)
-        (self.room / "second").hardlink_to(path)
-        files.write(Out(path, True), b"new")
-        self.assertEqual((path.read_bytes(), (self.room / "second").read_bytes()), (b"new", TABLE))
+    def test_whole_or_not_at_all(self) -> None:
+        full = OSError(28, "No space left on device")
+        for call in ("os.fsync", "os.replace"):
+            path = self.file("out", b"old")
+            with patch(call, side_effect=full), self.assertRaisesRegex(Failed, "out: No space left") as caught:
+                files.write(Out(path, True), b"new")
+            self.assertEqual((caught.exception.status, path.read_bytes(), self.names()), (DEVICE, b"old", ["out"]))
+        path.unlink()
+        with patch("os.fsync", side_effect=full), self.assertRaisesRegex(Failed, "out: No space left"):
+            files.write(Out(path), b"new")
+        with self.assertRaises(ZeroDivisionError):
+            files.write(Out(path), (str(1 // one) for one in (1, 0)))
+        self.assertEqual(self.names(), [])
 
-    def test_no_image(self) -> None:
-        path = self.file("image", IMAGE)
-        other = self.file("other", IMAGE)
-        (self.room / "link").symlink_to(path)
-        (self.room / "second").hardlink_to(path)
-        for name in ("image", "link", "second"):
-            for is_forced in (False, True):
-                self.refuses("is the input file .*image", Out(self.room / name, is_forced), path)
-        self.refuses("other: holds a journal, which is never overwritten", Out(other, True), path)
-        self.assertEqual((path.read_bytes(), other.read_bytes()), (IMAGE, IMAGE))
-
-    def test_no_file_that_nobody_may_write(self) -> None:
-        path = self.file("out", TABLE)
-        path.chmod(0o444)
-        self.refuses("is write-protected", Out(path, True))
-
-    def test_nothing_but_regular_files(self) -> None:
-        os.mkfifo(self.room / "pipe")
-        (self.room / "folder").mkdir()
-        for path in (self.room / "pipe", self.room / "folder", Path("/dev/null"), Path("/dev/zero")):
-            self.refuses("isn't a regular file", Out(path, True))
-
-    def test_a_link_goes_on_leading_to_what_is_written(self) -> None:
-        path = self.file("out", TABLE)
-        (self.room / "link").symlink_to("out")
-        files.write(Out(self.room / "link", True), b"new")
-        self.assertTrue((self.room / "link").is_symlink())
-        self.assertEqual(path.read_bytes(), b"new")
+    def test_synced_before_it_has_its_name(self) -> None:
+        path = self.file("out", b"old")
+        with patch("os.fsync", lambda _: self.assertEqual((len(self.names()), path.read_bytes()), (2, b"old"))):
+            files.write(Out(path, True), b"new")
+        self.assertEqual((path.read_bytes(), self.names()), (b"new", ["out"]))
 
     def test_a_name_that_is_taken_meanwhile(self) -> None:
         path = self.room / "out"
-        link = os.link
-
-        def taken(one: Path, other: Path) -> None:
-            path.write_bytes(b"other")
-            link(one, other)
-
-        with patch("os.link", taken), self.assertRaisesRegex(Failed, "was created by somebody else meanwhile"):
+        with patch.object(files, "check", lambda *given: path.write_bytes(b"other") < 0), self.assertRaisesRegex(Failed, "was created by somebody else meanwhile"):
             files.write(Out(path), b"new")
         self.assertEqual((path.read_bytes(), self.names()), (b"other", ["out"]))
 
-    def test_no_links(self) -> None:
-        with patch("os.link", side_effect=PermissionError):
-            files.write(Out(self.room / "out"), b"new")
-            self.assertEqual(((self.room / "out").read_bytes(), self.names()), (b"new", ["out"]))
-
-    def test_whole_or_not_at_all(self) -> None:
-        path = self.file("out", TABLE)
-        for call in ("os.fsync", "os.replace"):
-            with patch(call, side_effect=OSError(28, "No space left on device")), self.assertRaisesRegex(Failed, "No space left") as caught:
-                files.write(Out(path, True), b"new")
-            self.assertEqual((caught.exception.status, path.read_bytes(), self.names()), (DEVICE, TABLE, ["out"]))
-
-    def test_synced_before_it_has_its_name_and_its_folder_after(self) -> None:
-        calls: list[str] = []
-        sync, link, replace = os.fsync, os.link, os.replace
-
-        def noted(word: str, do: Callable[..., None]) -> Callable[..., None]:
-            def call(*given: object) -> None:
-                calls.append(f"{word} {'folder' if os.path.isdir(f'/proc/self/fd/{given[0]}') else 'file'}" if word == "sync" else word)
-                do(*given)
-            return call
-
-        with patch("os.fsync", noted("sync", sync)), patch("os.link", noted("name", link)), patch("os.replace", noted("name", replace)):
-            files.write(Out(self.room / "out"), TABLE)
-            files.write(Out(self.room / "out", True), TABLE)
-        self.assertEqual(calls, ["sync file", "name", "sync folder"] * 2)
-
     def test_two_of_one_name(self) -> None:
-        (self.room / "link").symlink_to(self.room / "out")
+        out = Out(self.room / "out")
         with self.assertRaisesRegex(Failed, "is named twice"):
-            files.check_all([Out(self.room / "out"), Out(self.room / "link")])
+            files.check_all([out, Out(self.room / ".." / self.room.name / "out")])
         with self.assertRaisesRegex(Failed, "is named twice"):
-            files.check_all([Out(self.room / "out")], others=[self.room / "out"])
+            files.check_all([out], others=[out.path])
+
+    def test_a_folder_is_whole_or_not_at_all(self) -> None:
+        with files.new_folder(self.room / "whole") as folder:
+            (folder / "a").write_text("a")
+        self.assertEqual((self.room / "whole/a").stat().st_mode & 0o777, 0o444)
+        with self.assertRaisesRegex(Failed, "whole: already exists; name a new folder"), files.new_folder(self.room / "whole"):
+            pass
+        code = ("import os, signal, sys\nfrom pathlib import Path\nfrom gaknifur import errors, files\ndef do():\n    with files.new_folder(Path(sys.argv[1])) as folder:\n"
+                "        (folder / 'a').write_text('a')\n        os.kill(os.getpid(), signal.SIGTERM)\nsys.exit(errors.caught(do))")
+        done = subprocess.run([sys.executable, "-c", code, self.room / "new"], cwd=TOP / "python")
+        self.assertEqual((done.returncode, self.names()), (143, ["whole"]))
 
 
-def written() -> Iterator[tuple[list[str], click.Command, click.Parameter, str]]:
+def written() -> Iterator[tuple[str, click.Command, click.Parameter, str]]:
     """Each file that a command of lab may write: the command, the parameter that names the file, and a suffix that it may have."""
     for name, command in lab.commands.items():
         for one in command.params:
             if "OUT" in (one.metavar or "") or one.name == "image" and isinstance(one, click.Option):
                 for suffix in re.findall(r"OUT((?:\.\w+)*)", one.metavar or "") or [""]:
-                    yield [name], command, one, ".svg" if one.name == "picture" else suffix
+                    yield name, command, one, ".svg" if one.name == "picture" else suffix
 
 
-def line_of(words: list[str], command: click.Command, param: click.Parameter, out: Path) -> list[str]:
+def line_of(name: str, command: click.Command, param: click.Parameter, out: Path) -> list[str]:
     """A command that writes this file, and reads files of the folder."""
-    line = [*words, *{"case": ["--event", "1"], "campaign": ["--random", "1"]}.get(words[0], [])]
+    line = [name, *{"case": ["--event", "1"], "campaign": ["--random", "1"]}.get(name, [])]
     for one in command.params:
         if isinstance(one, click.Argument):
             shown = one.metavar or ""
@@ -187,41 +139,64 @@ def line_of(words: list[str], command: click.Command, param: click.Parameter, ou
     return line if isinstance(param, click.Argument) else [*line, param.opts[0], str(out)]
 
 
-class Words(Room):
-    """The words of lab leave what is there."""
+TEXT = b"point,my own\n"
+KINDS: dict[str, Callable[[Path], object]] = {
+    "text": lambda at: at.write_bytes(TEXT), "database": lambda at: sqlite3.connect(at).executescript("CREATE TABLE a (b)").connection.close(),
+    "image": lambda at: at.write_bytes(IMAGE), "protected": lambda at: os.close(os.open(at, os.O_CREAT, 0o444)),
+    "link": lambda at: at.symlink_to("text"), "link to an image": lambda at: at.symlink_to("image"), "link to nothing": lambda at: at.symlink_to("nothing"),
+    "hard link": lambda at: at.hardlink_to(at.with_name("text")), "hard link to an image": lambda at: at.hardlink_to(at.with_name("image")),
+    "folder": Path.mkdir, "pipe": os.mkfifo, "device": lambda at: os.mknod(at, 0o020666, os.makedev(1, 5))}
+"""The kinds of what may be under the name of an output."""
+REPLACED = ("text", "database")
+"""The kinds that --force replaces."""
+ADDED = {("database", "out"), ("campaign", "paths"), ("drive", "image")}
+"""The outputs to which a command adds, and which --force doesn't replace."""
+
+
+class Commands(Room):
+    """The commands of lab leave what is there."""
+
+    def state(self) -> dict[str, object]:
+        """All that is in the folder."""
+        return {one.name: (one.lstat().st_mode, one.lstat().st_ino, one.read_bytes() if one.is_file() else os.readlink(one) if one.is_symlink() else None)
+                for one in self.room.rglob("*")}
+
+    def test_of_all_outputs(self) -> None:
+        self.file("image", layout.first_sector(2) + bytes(512 * 12))
+        self.file("a.yaml", DRIVE.encode())
+        self.file("text", TEXT)
+        (self.room / "empty").mkdir()
+        found = list(written())
+        self.assertGreaterEqual({(name, one.name) for name, _, one, _ in found}, ADDED | {
+            ("table", "out"), ("report", "out"), ("build", "out"), ("case", "out"), ("test", "junitxml"), ("drive", "csv"), ("drive", "scenario"),
+            ("drive", "picture"), ("campaign", "csv")})
+        for name, command, one, suffix in found:
+            has_force = any("--force" in other.opts for other in command.params)
+            for kind, make in KINDS.items():
+                for force in ("", "--force") if has_force else ("",):
+                    if force and kind in REPLACED and (name, one.name) not in ADDED:
+                        continue
+                    path = self.room / f"out{suffix}"
+                    make(path)
+                    with self.subTest(command=name, one=one.name, kind=kind, force=force):
+                        self.stays([*line_of(name, command, one, path), *force.split()], path)
+                    path.rmdir() if kind == "folder" else path.unlink()
 
     def stays(self, line: list[str], path: Path) -> None:
         """A command is refused in one line, which names the file, and changes nothing in the folder."""
-        before = {one: one.read_bytes() for one in self.room.rglob("*") if one.is_file()}
-        errors = io.StringIO()
+        before, errors = self.state(), io.StringIO()
         with contextlib.redirect_stderr(errors), contextlib.chdir(self.room), patch.object(drive_commands, "check_library"), \
                 patch.object(campaign_table, "settings_of", dict):
             self.assertIn(main(line), (REFUSED, DEVICE), (line, errors.getvalue()))
-        self.assertEqual(len(errors.getvalue().splitlines()), 1)
+        self.assertEqual(len(errors.getvalue().splitlines()), 1, errors.getvalue())
         self.assertTrue(errors.getvalue().startswith(f"lab: {path}: "), errors.getvalue())
-        self.assertEqual({one: one.read_bytes() for one in self.room.rglob("*") if one.is_file()}, before)
+        self.assertEqual(self.state(), before)
 
-    def test_of_all_commands(self) -> None:
-        self.file("image", layout.first_sector(2) + bytes(512 * 12))
-        self.file("a.yaml", DRIVE.encode())
-        (self.room / "empty").mkdir()
-        found = list(written())
-        self.assertGreaterEqual({(" ".join(words), one.name) for words, _, one, _ in found}, {
-            ("table", "out"), ("case", "out"), ("test", "junitxml"),
-            ("drive", "image"), ("drive", "scenario"), ("campaign", "paths"), ("campaign", "csv")})
-        for words, command, one, suffix in found:
-            force = ["--force"] if any("--force" in other.opts for other in command.params) else []
-            foreign, image, folder = self.file(f"foreign{suffix}", b"point,my own\n"), self.file(f"other{suffix}", IMAGE), self.room / f"folder{suffix}"
-            folder.mkdir(exist_ok=True)
-            tries: list[tuple[Path, list[str]]] = [(foreign, []), (image, []), (image, force), (folder, force)]
-            for path, forces in tries:
-                with self.subTest(command=" ".join(words), one=one.name, path=path.name, forces=forces):
-                    self.stays([*line_of(words, command, one, path), *forces], path)
-
-    def test_with_force_another_s_file_is_replaced(self) -> None:
+    def test_with_force_another_s_file_is_replaced_but_no_input(self) -> None:
         path, scenario = self.file("mine.json", b"my own"), self.file("scenario.yaml", b"steps: [clock: 5 s]\n")
         self.assertEqual(main(["build", str(scenario), str(path), "--force"]), 0)
         self.assertTrue(path.read_bytes().startswith(b"{"))
+        self.stays(["build", str(scenario), str(scenario), "--force"], scenario)
 
     def test_a_folder_for_what_is_found_is_new(self) -> None:
         (self.room / "kept").mkdir()
@@ -234,17 +209,11 @@ class Words(Room):
         self.assertEqual(list((self.room / "kept").iterdir()), [])
 
     def test_of_a_drive(self) -> None:
-        image, yaml = self.file("image", IMAGE), self.file("a.yaml", b"")
-        given = SimpleNamespace(yaml=yaml, image=image, csv=None, scenario=None, picture=None, force=True)
-        for name, path in (("csv", image), ("scenario", yaml), ("picture", self.file("a.svg", IMAGE))):
-            with self.assertRaises(Failed) as caught:
-                drive_commands.outs_of(SimpleNamespace(**vars(given) | {name: path}))
-            self.assertEqual(caught.exception.status, REFUSED)
-        with self.assertRaisesRegex(Failed, "is named twice"):
-            drive_commands.outs_of(SimpleNamespace(**vars(given) | {"csv": self.room / "b", "scenario": self.room / "b"}))
-        with self.assertRaisesRegex(Failed, "is named twice"):
-            drive_commands.outs_of(SimpleNamespace(**vars(given) | {"csv": self.room / "b", "image": self.room / "b"}))
-        self.assertEqual(list(drive_commands.outs_of(SimpleNamespace(**vars(given) | {"csv": self.room / "b"}))), ["csv"])
+        given = SimpleNamespace(yaml=self.file("a.yaml", b""), image=self.room / "image", csv=self.room / "b", scenario=None, picture=None, force=True)
+        for name in ("scenario", "image"):
+            with self.assertRaisesRegex(Failed, "is named twice"):
+                drive_commands.outs_of(SimpleNamespace(**vars(given) | {name: self.room / "b"}))
+        self.assertEqual(list(drive_commands.outs_of(given)), ["csv"])
 
 
 class Images(Room):
@@ -308,21 +277,6 @@ class Images(Room):
             self.file("gone.identity", identity)
             self.refuses_image(self.room / "gone", "isn't an image that `lab drive` made")
 
-    def test_one_that_other_names_lead_to_or_that_is_protected(self) -> None:
-        self.own("link"), self.own("second")
-        for name in ("link", "second"):
-            (self.room / name).unlink()
-        evidence = self.file("evidence", IMAGE * 3)
-        (self.room / "link").symlink_to(evidence)
-        self.refuses_image(self.room / "link", "link: is a link")
-        (self.room / "second").hardlink_to(evidence)
-        self.refuses_image(self.room / "second", r"second: has several names \(hard links\)")
-        (self.room / "link").unlink()
-        (self.room / "link").symlink_to("nothing")
-        self.refuses_image(self.room / "link", "link: is a link")
-        self.own("protected").chmod(0o444)
-        self.refuses_image(self.room / "protected", "protected: is write-protected")
-
     def test_a_cut_within_it_loses_nothing_that_was_there(self) -> None:
         image = self.own("image")
         with patch("os.pwrite", side_effect=OSError(5, "Input/output error")), patch.object(drive_commands, "on_medium", self.on_medium), \
@@ -341,13 +295,6 @@ class Images(Room):
             drive_commands.on_file(image, self.scenario, self.drive)
         self.assertEqual((image.read_bytes(), self.names()), (IMAGE * 2, ["a.yaml", "image", "image.identity"]))
 
-    def test_no_image(self) -> None:
-        os.mkfifo(self.room / "pipe")
-        for path in (self.room / "pipe", self.room, Path("/dev/null"), self.room / "a.yaml"):
-            with self.assertRaises(Failed) as caught:
-                drive_commands.on_file(path, self.scenario, self.drive)
-            self.assertEqual(caught.exception.status, REFUSED)
-
     def test_the_unit_s_library_is_looked_for_first(self) -> None:
         with patch.object(closed_loop, "library", side_effect=OSError("none")), self.assertRaisesRegex(Failed, "tools/library --unproved PREFIX"):
             closed_loop.on_medium(MemoryMedium(IMAGE), self.scenario, self.drive)
@@ -361,54 +308,6 @@ def add_one(path: Path, number: int) -> None:
         sample.examination["image"]["sha256"] = digest
         database.add(connection, sample, tables.frame(sample))
     connection.close()
-
-
-class Inputs(Room):
-    """A file that is read is a regular one; what else is there is named, and isn't waited for."""
-
-    def test_a_fifo(self) -> None:
-        os.mkfifo(self.room / "fifo")
-        for words in (("build", "fifo"), ("search", "fifo"), ("lint", "fifo"),
-                      ("search", "--records", "fifo", str(TOP / "suites/safety_laws.search.yaml"))):
-            with self.subTest(words):
-                done = subprocess.run([TOP / "lab", *words], cwd=self.room, stdin=subprocess.DEVNULL, capture_output=True, text=True, timeout=60)
-                self.assertEqual((done.returncode, done.stderr), (DEVICE, "lab: fifo: is a named pipe (FIFO), and a regular file is needed\n"))
-
-    def test_others(self) -> None:
-        (self.room / "folder").mkdir()
-        with socket.socket(socket.AF_UNIX) as bound:
-            bound.bind(str(self.room / "socket"))
-            for name, message in (("folder", "is a folder, and a regular file"), ("/dev/null", "is a device, and"), ("socket", "No such device"),
-                               ("none", "No such file")):
-                with self.assertRaisesRegex(Failed, message) as caught:
-                    files.opened(self.room / name)
-                self.assertEqual(caught.exception.status, DEVICE)
-        with files.opened(self.file("a", b"text")) as file:
-            self.assertEqual(file.read(), b"text")
-
-
-TERMINATED = """
-import os, signal, sys
-from unittest.mock import patch
-from gaknifur.__main__ import main
-def end(image, data, *_):
-    if not os.fork():
-        os.kill(os.getpid(), signal.SIGTERM)
-    print(os.WTERMSIG(os.wait()[1]), sorted(os.listdir(data)), flush=True)
-    os.kill(os.getpid(), signal.SIGTERM)
-with patch("gaknifur.evidence.seal.draw", end):
-    sys.exit(main(["seal", *sys.argv[1:]]))
-"""
-
-
-class Terminated(Room):
-    """A command that is terminated."""
-
-    def test_nothing_is_left(self) -> None:
-        self.file("image", IMAGE)
-        done = subprocess.run([sys.executable, "-c", TERMINATED, self.room / "image", self.room / "bag"], cwd=TOP / "python", capture_output=True, text=True)
-        self.assertEqual((done.stdout, done.stderr, done.returncode), ("15 ['image']\n", "lab: terminated\n", 143))
-        self.assertEqual(self.names(), ["image"])
 
 
 class Databases(Room):
@@ -460,22 +359,13 @@ class Databases(Room):
                         use()
                     self.assertEqual(found.exception.status, DEVICE)
 
-    def test_what_is_no_such_database_stays(self) -> None:
-        path = self.room / "other"
-        with sqlite3.connect(path) as connection:
-            connection.execute("CREATE TABLE a (b)")
-        connection.close()
+    def test_of_another_kind(self) -> None:
         campaign_table.Table(self.room / "campaign", {}).close()
         database.open_database(self.room / "journals").close()
-        self.file("empty", b"")
-        self.file("image", IMAGE)
         before = {name: (self.room / name).read_bytes() for name in self.names()}
-        for name in before:
-            if name != "journals":
-                self.assertRaises(Failed, database.open_database, self.room / name)
-            if name != "campaign":
-                self.assertRaises(Failed, campaign_table.Table, self.room / name, {})
-                self.assertRaises(Failed, next, campaign_table.rows_of(self.room / name))
+        self.assertRaisesRegex(Failed, "is not a database of journals that lab made", database.open_database, self.room / "campaign")
+        self.assertRaisesRegex(Failed, "is not a table of a campaign", campaign_table.Table, self.room / "journals", {})
+        self.assertRaisesRegex(Failed, "is not a table of a campaign", next, campaign_table.rows_of(self.room / "journals"))
         self.assertEqual({name: (self.room / name).read_bytes() for name in self.names()}, before)
 
     def test_many_at_once(self) -> None:

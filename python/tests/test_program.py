@@ -128,18 +128,18 @@ class Missing(unittest.TestCase):
             self.assertRaisesRegex(Failed, "^/none/etcs: No such file or directory$", etcs, "decode", "90")
 
 
-class Packed(unittest.TestCase):
+class Long(unittest.TestCase):
     """Records of a long journal."""
 
     def test_are_those_that_were_added(self) -> None:
-        records = [record(number, identity=f"IC {number}", telegram=None if number % 2 else "90" * 104) for number in range(23)]
-        for count in (0, 1, 7, 8, 9, 11, 12, 23):
+        records = [record(number, identity=f"IC {number}\u2028\u00e9", telegram=None if number % 2 else "90" * 104) for number in range(23)]
+        for count in (0, 1, 4, 8, 9, 23):
             found = Records()
-            with patch.multiple(reading, PACK=4, MOST_UNPACKED=8):
+            with patch.object(reading, "AT_ONCE", 4):
                 for one in records[:count]:
                     found.append(one)
-                self.assertEqual((len(found), bool(found), len(found.packs)), (count, count > 0, count // 4 if count >= 8 else 0))
-                self.assertEqual(list(found), records[:count])
+                self.assertEqual((len(found), bool(found), list(found)), (count, count > 0, records[:count]))
+                self.assertEqual([one for one, _ in zip(found, found)], records[:count])
                 self.assertEqual([found[at] for at in range(-count, count)], 2 * records[:count])
                 self.assertEqual((found[3:], found[-2:], found[::5]), (records[:count][3:], records[:count][-2:], records[:count:5]))
                 self.assertRaises(IndexError, lambda: found[count])

@@ -81,7 +81,7 @@ class Listed(unittest.TestCase):
 
     def test_a_table_of_the_database(self) -> None:
         connection = sqlite3.connect(":memory:")
-        database.fill(connection)
+        connection.executescript(database.KIND.schema)
         connection.commit()
         sample = journal(record(0, "powerup"), telegram(1), telegram(2, (STOP_IN_SR, "not_known"), (INFILL, "infill")),
                        telegram(3, (NAMELESS, "refused"), refused=True))

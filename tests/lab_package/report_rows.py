@@ -132,7 +132,7 @@ def damaged(rows):
              said="lab: 3.5: not an event (120), a place (300m) or a moment (20.5s)")
     rows.lab("database", "trip", "trip.db")
     rows.lab("database", "trip", "trip.db", said="lab: trip: is in the database already")
-    rows.lab("database", "trip", "trip", status=1, said="lab: trip: is the input file trip")
+    rows.lab("database", "trip", "trip", status=1, said="lab: trip: is an input of this command, so it is not written to. Name a new file. Nothing was changed.")
     rows.lab("report", "trip", "byte", "--force", status=1, said="lab: byte: holds a journal, which is never overwritten")
     for word in ("table", "database", "report"):
         rows.same(f"lab {word} --help", f"Usage: lab {word}" in rows.lab(word, "--help"), True)

@@ -107,9 +107,9 @@ class Driven(Compared):
                                     (["drive", kept, "--picture", self.room / "x.gif"], 2, "--picture: the file name has to end in .svg or .png"),
                                     (["build", kept], 1, "use lab drive --scenario"),
                                     (["drive", kept, "--image", self.room], 1, "isn't a regular file"),
-                                    (["drive", kept, "--image", kept], 1, "is a file that is read here"),
+                                    (["drive", kept, "--image", kept], 1, "is an input of this command"),
                                     (["drive", kept, "--image", none], 1, "isn't an image that `lab drive` made"),
-                                    (["drive", kept, "--csv", kept, "--force"], 1, "is the input file")):
+                                    (["drive", kept, "--csv", kept, "--force"], 1, "is an input of this command")):
             found = lab(*words)
             self.same(f"{words}", (found[0], said in found[2]), (status, True))
         found = lab("drive", kept, env={"GAKNIFUR_ETCS_UNIT": str(self.room / "no.so")}.items())

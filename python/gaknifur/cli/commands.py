@@ -258,10 +258,10 @@ TESTING = [
             "Errors name the file, line and column.", "build drive.yaml drive.json",
             Argument("yaml", "FILE.yaml", "a scenario"), Argument("out", "[OUT.json]", "output file (default: standard output)", required=False), FORCE),
     Command("case", "cli.testing_commands:write_case", "Make a test case of a journal's lives up to an event",
-            "The expected result is the unit's answer at the event. The case is played before it is written: each record of the event's life has to be as in the journal. Never overwrites a file. Status 1: the "
+            "The expected result is the unit's answer at the event. The case is played before it is written: each record of the event's life has to be as in the journal. Status 1: the "
             "life can't be played again, and nothing was written.", "case image --event 8 braked.case.yaml",
             IMAGE, Argument("out", "[OUT.case.yaml]", "output file (default: standard output)", required=False),
-            option("--event", "the last event of the case", "N", NATURAL, required=True)),
+            option("--event", "the last event of the case", "N", NATURAL, required=True), FORCE),
     Command("test", "cli.testing_commands:run_tests", "Run the test cases of a folder and check their expected results",
             "Other options go to pytest, such as -k, -x and --lf. Status 4: a test failed.", "test suites --section 3.13",
             Argument("words", "FOLDER", "a folder or a file with test cases", nargs=-1, type=click.UNPROCESSED, callback=folder_and_others, expose_value=False),

@@ -94,14 +94,12 @@ def on_file(path: Path, scenario: scenarios.Scenario, drive: Drive) -> driving.D
     try:
         if not is_there(path, drive):
             driven, data = over_image(fresh(scenario, drive), scenario, drive)
-            files.write_new(path, data)
+            files.write(files.Out(path), data)
             if identity.of(path) is None:
-                files.write_new(identity.path_of(path), f"unit: {UNIT}\n".encode())
+                files.write(files.Out(identity.path_of(path)), f"unit: {UNIT}\n")
             return driven
         with FileMedium(path) as medium:
             return on_medium(medium, scenario, drive)
-    except FileExistsError as error:
-        raise files.refused(path, "was created by somebody else meanwhile; it is not overwritten") from error
     except BlockingIOError as error:
         raise Failed(f"{path}: another program holds its lock. Nothing was changed.", DEVICE) from error
     except OSError as error:

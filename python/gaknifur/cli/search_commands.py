@@ -68,7 +68,7 @@ def record_of(path: Path, number: int, line: str) -> Json | None:
 def records_of(path: Path) -> list[Json]:
     """The records of a file."""
     try:
-        with naming(path), io.TextIOWrapper(files.opened(path), encoding="utf-8") as file:
+        with naming(path), path.open(encoding="utf-8") as file:
             found = [one for number, line in enumerate(file, 1) if (one := record_of(path, number, line)) is not None]
     except UnicodeDecodeError:
         raise Failed(f"{path}: not a UTF-8 text", REFUSED) from None

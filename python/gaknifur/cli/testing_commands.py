@@ -1,5 +1,4 @@
 """The commands about test cases and what they consist of: `build`, `telegram`, `case`, `test` and `coverage`."""
-import contextlib
 import difflib
 import hashlib
 import os
@@ -36,13 +35,9 @@ def write_case(given: SimpleNamespace, progress: Progress) -> int:
     from ..testing import case_files, journal_case
     if given.out is not None and not case_files.is_case_file(given.out.name):
         raise Failed(f"{given.out}: the name has to end in .case.yaml", WRONG_WORDS)
-    with files.new_file(given.out) if given.out is not None else contextlib.nullcontext() as file:
-        journal = read(given.image, replay=True, progress=progress)
-        text = journal_case.made(journal, given.event)
-        if file is None:
-            sys.stdout.write(text)
-        else:
-            file.write(text.encode())
+    out = out_of(given, given.image)
+    journal = read(given.image, replay=True, progress=progress)
+    write(out, journal_case.made(journal, given.event), given.image)
     return note(journal)
 
 

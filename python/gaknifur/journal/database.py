@@ -39,19 +39,14 @@ UNUSED = "name bit bits why".split()
 HEADER = "Q_UPDOWN M_VERSION Q_MEDIA N_PIG N_TOTAL M_DUP M_MCOUNT NID_C NID_BG Q_LINK".split()
 
 
-def schema() -> str:
-    """The statements that make an empty database."""
-    return (Path(__file__).parent / "schema.sql").read_text(encoding="utf-8")
-
-
+KIND = files.Database("a database of journals", 0x474B4A4C, (Path(__file__).parent / "schema.sql").read_text(encoding="utf-8"))
 ALTERED = "SELECT 1 FROM sqlite_master WHERE type = 'trigger' OR type = 'view' AND lower(name) IN ({})".format(
-    ", ".join(f"'{name}'" for name in re.findall(r"CREATE TABLE (\w+)", schema())))
+    ", ".join(f"'{name}'" for name in re.findall(r"CREATE TABLE (\w+)", KIND.schema)))
 """Whether a database has what would run when its tables are used, perhaps for ever."""
 
 
 def fill(connection: sqlite3.Connection) -> None:
-    """Fills a new database with its tables and views, and the texts of causes."""
-    connection.executescript(schema())
+    """Fills a new database with the texts of causes."""
     insert(connection, "cause_word", ["cause", "says", "ends"], ([name, *texts] for name, texts in _words.CAUSES.items()))
     insert(connection, "trip_word", ["trip_cause", "says", "section"],
            ([name, *texts] for name, texts in _words.TRIP_CAUSES.items()))
@@ -59,7 +54,7 @@ def fill(connection: sqlite3.Connection) -> None:
 
 def open_database(path: str | Path, images: Iterable[Path] = ()) -> sqlite3.Connection:
     """Opens a database, or creates it. Refuses a file that is one of the images, or a database of another kind."""
-    connection = files.open_database(Path(path), files.JOURNALS, fill, images, is_by_hand=True)
+    connection = files.open_database(Path(path), KIND, fill, images)
     try:
         with files.sqlite_errors(Path(path)):
             connection.execute("PRAGMA foreign_keys = ON")

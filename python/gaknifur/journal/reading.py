@@ -3,15 +3,16 @@ import contextlib
 import gc
 import itertools
 import json
-import marshal
-import zlib
+import os
+import tempfile
+from array import array
 from collections.abc import Callable, Iterable, Iterator, Sequence
 from dataclasses import dataclass, field
 from pathlib import Path
 from typing import TYPE_CHECKING, Any, Protocol, overload
 
-from ..digests import digest
 from ..escaping import shown
+from ..files import digest
 from ..program import DEVICE, NOT_WHOLE, REFUSED, WHOLE, Failed, Run
 from . import layout, sizes
 from .part import Changes, Part
@@ -26,9 +27,8 @@ Progress = Callable[[str, int, int], None]
 """A callback for progress: what is being done, how much is done, and the total (0 if it isn't known)."""
 
 
-AT_ONCE, PACK, MOST_UNPACKED, MOST_SMALL = 512, 512, 1 << 15, 1 << 20
-"""The number of lines that are read at once, the number of records in a pack, the greatest number of records that aren't packed (a
-multiple of PACK), and the greatest size of an image whose lines are all read at once."""
+AT_ONCE, MOST_SMALL = 512, 1 << 20
+"""The number of lines that are parsed at once, and the greatest size of an image whose lines are all read at once."""
 
 
 class Choice(Protocol):
@@ -49,39 +49,28 @@ def silent(what: str, done: int, whole: int) -> None:
 
 
 class Records(Sequence[Json]):
-    """A list of records. Those of a long journal are kept compressed, PACK at a time: this needs a tenth of the memory, and a few
-    microseconds for each record that is read. Changes to a record that was read are not kept."""
+    """The records of a long journal, as lines of a temporary file. They are parsed each time they are read: as objects they would need
+    several times the memory. Changes to a record that was read are not kept."""
 
     def __init__(self) -> None:
-        self.packs: list[bytes] = []
-        self.last: list[Json] = []
-        self.is_long = False
-        self.unpacked: tuple[int, list[Json]] = -1, []
+        self.file, self.ends = tempfile.TemporaryFile(), array("Q", [0])
 
     def append(self, record: Json) -> None:
         """Adds a record."""
-        self.last.append(record)
-        if len(self.last) >= (PACK if self.is_long else MOST_UNPACKED):
-            self.is_long = True
-            for first in range(0, len(self.last), PACK):
-                self.packs.append(zlib.compress(marshal.dumps(self.last[first:first + PACK]), 1))
-            self.last = []
+        self.ends.append(self.ends[-1] + self.file.write(json.dumps(record).encode() + b"\n"))
 
-    def pack(self, number: int) -> list[Json]:
-        """The records of a pack, or the last ones, which aren't packed."""
-        if number >= len(self.packs):
-            return self.last
-        if self.unpacked[0] != number:
-            self.unpacked = number, marshal.loads(zlib.decompress(self.packs[number]))
-        return self.unpacked[1]
+    def some(self, first: int, end: int) -> list[Json]:
+        """The records from one on, before another one."""
+        self.file.flush()
+        data = os.pread(self.file.fileno(), self.ends[end] - self.ends[first], self.ends[first])
+        return parsed_all(data.decode().splitlines(), "events")
 
     def __len__(self) -> int:
-        return PACK * len(self.packs) + len(self.last)
+        return len(self.ends) - 1
 
     def __iter__(self) -> Iterator[Json]:
-        for number in range(len(self.packs)):
-            yield from self.pack(number)
-        yield from self.last
+        for at in range(0, len(self), AT_ONCE):
+            yield from self.some(at, min(at + AT_ONCE, len(self)))
 
     @overload
     def __getitem__(self, at: int) -> Json: ...
@@ -91,8 +80,7 @@ class Records(Sequence[Json]):
         if isinstance(at, slice):
             return [self[one] for one in range(len(self))[at]]
         row = range(len(self))[at]
-        number = min(row // PACK, len(self.packs))
-        return self.pack(number)[row - PACK * number]
+        return self.some(row, row + 1)[0]
 
 
 @dataclass
@@ -324,7 +312,8 @@ def read_events(journal: Journal, other_blocks: bool, strays: bool, progress: Pr
     extent = journal.examination["journal"] or {}
     last, first = extent.get("last_event"), extent.get("first_event")
     whole = 0 if last is None or first is None else last - first + 1
-    ended, count, records = False, 0, Records()
+    ended, count = False, 0
+    records: list[Json] | Records = [] if is_small(journal.path) else Records()
     journal.records = records
 
     def step(line: Json) -> None:

@@ -12,21 +12,20 @@ from pathlib import Path
 from typing import Any
 
 from .. import files, program
-from ..digests import digest
 from ..journal.csv_cells import guarded
-from ..program import DEVICE, REFUSED, Failed
+from ..program import REFUSED, Failed
 from .campaign import COLUMNS, NOT_COMPARED, Job, Row
 
 COMMIT_SECONDS = 0.25
 IS_PROVED = {True: "yes", False: "no", None: "unknown"}
 INSERT = f"INSERT OR REPLACE INTO result ({', '.join(COLUMNS)}) VALUES ({', '.join('?' * len(COLUMNS))})"
-SCHEMA = """
+KIND = files.Database("a table of a campaign", 0x474B4350, """\
 CREATE TABLE campaign (name TEXT PRIMARY KEY, value TEXT NOT NULL) STRICT;
 CREATE TABLE result (
     name TEXT PRIMARY KEY, job_sha256 TEXT NOT NULL, kind TEXT NOT NULL, ended TEXT NOT NULL, image_sha256 TEXT, events INTEGER,
     lives INTEGER, mode TEXT, brake TEXT, limit_m_per_h INTEGER, place_cm INTEGER, emergencies INTEGER, trips INTEGER,
     tests INTEGER, missed INTEGER, first_missed TEXT, sound INTEGER NOT NULL, seconds REAL, worker TEXT) STRICT;
-"""
+""")
 
 
 class Table:
@@ -35,34 +34,21 @@ class Table:
 
     def __init__(self, path: Path, settings: dict[str, str]) -> None:
         def fill(connection: sqlite3.Connection) -> None:
-            connection.executescript(SCHEMA)
             connection.executemany("INSERT INTO campaign VALUES (?, ?)", settings.items())
 
         self.path, self.written = path, time.monotonic()
-        self.connection = files.open_database(path, files.CAMPAIGN, fill, is_by_hand=True)
-        self.take_alone()
+        self.connection = files.open_database(path, KIND, fill, wait=0)
         try:
             with files.sqlite_errors(path):
+                self.connection.execute("BEGIN IMMEDIATE")
+                self.connection.execute(f"PRAGMA busy_timeout = {files.WAIT_SECONDS * 1000:.0f}")
                 found = dict(self.connection.execute("SELECT name, value FROM campaign"))
+            for name, value in settings.items():
+                if name.endswith("_sha256") and found.get(name) != value:
+                    raise Failed(f"{path}: was made with {name} {found.get(name)}, and this program is {value}; name a new file", REFUSED)
         except Failed:
             self.connection.close()
             raise
-        for name, value in settings.items():
-            if name.endswith("_sha256") and found.get(name) != value:
-                self.connection.close()
-                raise Failed(f"{path}: was made with {name} {found.get(name)}, and this program is {value}; name a new file", REFUSED)
-
-    def take_alone(self) -> None:
-        """Begins the first transaction; fails at once if another program has one."""
-        try:
-            self.connection.execute("PRAGMA busy_timeout = 0")
-            self.connection.execute("BEGIN IMMEDIATE")
-            self.connection.execute(f"PRAGMA busy_timeout = {files.WAIT_SECONDS * 1000:.0f}")
-        except sqlite3.Error as error:
-            self.connection.close()
-            is_busy = error.sqlite_errorcode == sqlite3.SQLITE_BUSY
-            reason = "another program is writing to it; wait for its end, or name another file" if is_busy else error
-            raise Failed(f"{self.path}: {reason}", DEVICE) from error
 
     def has_rows(self) -> bool:
         """Whether any job was run already."""
@@ -95,14 +81,14 @@ def settings_of() -> dict[str, str]:
     """The programs: their SHA-256, and whether each is proved."""
     found = {}
     for name in ("etcs", "etcs_lab"):
-        found[f"{name}_sha256"] = digest(Path(program.find(name)))
+        found[f"{name}_sha256"] = files.digest(Path(program.find(name)))
         found[f"{name}_is_proved"] = IS_PROVED[program.proof(name)]
     return found
 
 
 def rows_of(path: Path) -> Iterator[Row]:
     """The rows of a table in the order of their names, with the columns that are compared."""
-    with files.read_database(path, files.CAMPAIGN) as connection:
+    with files.read_database(path, KIND) as connection:
         kept = [name for name in COLUMNS if name not in NOT_COMPARED]
         for row in connection.execute(f"SELECT {', '.join(kept)} FROM result ORDER BY name"):
             yield dict(zip(kept, row))
@@ -110,7 +96,7 @@ def rows_of(path: Path) -> Iterator[Row]:
 
 def unsound(path: Path, most: int) -> tuple[int, int, list[Row]]:
     """The number of rows of a table, the number of those that aren't sound, and the first of these."""
-    with files.read_database(path, files.CAMPAIGN) as connection:
+    with files.read_database(path, KIND) as connection:
         count, bad = connection.execute("SELECT count(*), count(*) FILTER (WHERE NOT sound) FROM result").fetchone()
         rows = connection.execute("SELECT name, ended, first_missed FROM result WHERE NOT sound ORDER BY name LIMIT ?", (most,))
         return count, bad, [dict(zip(("name", "ended", "first_missed"), row)) for row in rows]
@@ -118,7 +104,7 @@ def unsound(path: Path, most: int) -> tuple[int, int, list[Row]]:
 
 def refused(path: Path) -> tuple[int, str]:
     """The number of scenarios of a table that were refused, so that nothing of them was run, and the first with its refusal."""
-    with files.read_database(path, files.CAMPAIGN) as connection:
+    with files.read_database(path, KIND) as connection:
         found = connection.execute("SELECT count(*), min(name || ': ' || ended) FROM result WHERE kind = 'scenario' AND ended LIKE 'refused %'")
         count, first = found.fetchone()
         return count, first or ""
@@ -126,7 +112,7 @@ def refused(path: Path) -> tuple[int, str]:
 
 def write_csv(path: Path, out: files.Out) -> None:
     """Writes the whole table as CSV, in the order of the names."""
-    with files.read_database(path, files.CAMPAIGN) as connection:
+    with files.read_database(path, KIND) as connection:
         rows = connection.execute(f"SELECT {', '.join(COLUMNS)} FROM result ORDER BY name")
         files.write(out, map(csv_line, itertools.chain([COLUMNS], rows)), [path])
 

@@ -9,7 +9,6 @@ from typing import Any
 
 import jsonschema
 
-from ..files import opened
 from ..program import naming
 from ..yaml_files import shortened
 
@@ -68,8 +67,8 @@ def faults(path: Path) -> Iterator[Fault]:
         twice.extend(name for number, name in enumerate(names) if name in names[:number])
         return dict(pairs)
 
-    with naming(path), opened(path) as file:
-        text = file.read()
+    with naming(path):
+        text = path.read_bytes()
     try:
         scenario = json.loads(text.decode("utf-8"), parse_float=Real, parse_constant=refuse, object_pairs_hook=members)
     except json.JSONDecodeError as error:

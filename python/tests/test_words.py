@@ -168,7 +168,7 @@ class Completion(unittest.TestCase):
         crates = Path(__file__).parents[2] / "crates"
         output = (crates / "etcs_lab/stdout").read_text(encoding="utf-8")
         words = set(re.findall(r"^  ([a-z]+) +[A-Z]", output, re.MULTILINE))
-        options = set(re.findall(r'\.long\("([a-z]+)"\)', (crates / "command_line/src/lab_app.rt").read_text(encoding="utf-8")))
+        options = set(re.findall(r'\(\s*"([a-z]+)",\s*Takes::', (crates / "command_line/src/lab_app.rt").read_text(encoding="utf-8")))
         self.assertEqual(self.completed(""), words | {"--version", "--help"})
         self.assertEqual(self.completed("check", "-"), {f"--{name}" for name in options})
 

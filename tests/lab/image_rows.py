@@ -101,7 +101,16 @@ def compare_words(program, room, compared):
         ["decode", "--slots", "6", "90"], ["run", str(good), "--slots", "6"], ["play", "--slots", "1"], ["play", "--outputs"],
         ["play", "--outputs", "some"], ["play", "--json"], ["examine", "--", "--slots", "6", str(good)],
         *(["examine", "--slots", slots, str(good)] for slots in ("", "1", "1048577", "-6", "6.0", "x", "4294967302")),
+        ["events"], ["replay"], ["why"], ["packets"], ["run"], ["replay", "--all", str(good)], ["check", "--known", str(good)], ["why", "--all", str(good)],
+        ["packets", "90", "90"], ["run", "--json", str(good)], ["run", str(good), str(good)], ["play", "--images"], ["play", "--slots", "1048577"],
     )
+    right = (
+        *([word, option, "--slots", "6", str(good)] for word, option in (("examine", "--json"), ("events", "--all"), ("replay", "--json"), ("check", "--json"))),
+        ["why", "--known", "--json", "--slots", "6", str(good), "8"], ["decode", "--json", "90"], ["packets", "--json", "90"], ["run", str(good)],
+        ["play", "--slots", "2", "--outputs", "none", "--images", str(room), str(good), str(good)],
+    )
+    for words in right:
+        compared.same(f"words {words}", run(program, words)[2] == 2, False)
     for words in wrong:
         printed, said, status = run(program, words)
         compared.same(f"words {words}", (printed, said.startswith("error: "), status), ("", True, 2))

@@ -1,9 +1,7 @@
 -- Commands as `clap` reads them, and the values of arguments (this project's profile).
-use Rattle.std.specs.Prelude.{◌≡◌, ℕ, Bool, true, false, Option, Some, None, List, [], ◌∷◌, if◌then◌else◌, codes, unwrap_or}
-use Rattle.std.specs.Option.{option_map_or}
-use Rattle.std.specs.Str.{bytes_eq}
+use Rattle.std.specs.Prelude.{◌≡◌, ℕ, Bool, true, false, Option, Some, None, [], ◌∷◌, if◌then◌else◌}
 use Rattle.std.specs.Str.Parse.{digits_value, without_leading_plus}
-use Rattle.clap.specs.Words.{App, Row, Rule, Text, Kinds, all_of, app_of, first_of, new_rule, rule_of}
+use Rattle.clap.specs.Words.{App, Rule, Text, Kinds, app_of, new_rule, rule_of}
 use Rattle.clap.specs.ValueTests.{is_unsigned_in}
 use Rattle.clap.specs.declared.builder.arg.Arg.{Arg}
 use Rattle.clap.specs.declared.builder.command.Command.{Command}
@@ -35,14 +33,3 @@ number_of most text = if is_unsigned_in 0 most text then Some (digits_value 10 (
 
 abbrev pub most_u32 : ℕ
 most_u32 = 4_294_967_295
-
-abbrev pub most_u64 : ℕ
-most_u64 = 18_446_744_073_709_551_615
-
--- a flag is set
-abbrev pub is_set : Text → List Row → Bool
-is_set id rows = option_map_or (λ text. bytes_eq text (codes "true")) (first_of id rows) false
-
--- the values of an argument, in their order
-abbrev pub all_values : Text → List Row → List Text
-all_values id rows = unwrap_or (all_of id rows) []

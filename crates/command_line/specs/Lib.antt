@@ -1,4 +1,3 @@
 pub mod Arguments
 pub mod EtcsArguments
-pub mod LabArguments
 pub mod Statuses

@@ -1,7 +1,9 @@
 -- The exit status of `etcs_lab` (this project's profile).
-use Rattle.std.specs.Prelude.{ℕ}
+use Rattle.std.specs.Prelude.{ℕ, Bool, false, true}
 use Rattle.std.specs.declared.io.ErrorKind.{ErrorKind}
 use Rattle.std.specs.declared.io.ErrorKind.TheVariants.{OutOfMemory}
+use Rattle.clap.specs.declared.error.kind.ErrorKind.{ErrorKind as Kind}
+use Rattle.clap.specs.declared.error.kind.ErrorKind.TheVariants as kind
 use Rattle.command_line.specs.declared.lab_status.Status.{Status}
 use Rattle.command_line.specs.declared.lab_status.Status.TheVariants.{Whole, Refused, Usage, Device, Damaged, Unwritten}
 
@@ -17,3 +19,14 @@ code_of Unwritten = 1
 abbrev pub unread_status : ErrorKind → Status
 unread_status OutOfMemory = Refused
 unread_status _ = Device
+
+-- help or the version was asked for
+abbrev pub is_help : Kind → Bool
+is_help kind.DisplayHelp = true
+is_help kind.DisplayVersion = true
+is_help _ = false
+
+-- that of arguments that are no command
+abbrev pub wrong_status : Kind → Status
+wrong_status kind.OutOfMemory = Refused
+wrong_status _ = Usage

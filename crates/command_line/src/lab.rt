@@ -1,16 +1,9 @@
-//! The command line of `etcs_lab`.
-ghost use Rattle.std.specs.Prelude.{◌≡◌, ◌≢◌, IfErr, IfOk, None, Some, codes, map, option_map};
-ghost use Rattle.std.specs.String.{string_bytes};
-ghost use Rattle.clap.specs.Words.{FailsBy, fault_of, first_of, found_of, kind_of, rows_of, subcommand_of, subcommand_rows_of};
-ghost use Rattle.command_line.specs.LabArguments.{flagged_values, image_values, image_values_of, lab_values, matched_values, named_values, play_over, play_values, single_values, value_values, values_of, why_values};
-ghost use Rattle.command_line.specs.LabArguments as spec;
+//! The command line of `etcs_lab`. It is safe, and returns; which arguments give which command is tested.
 
 use crate::lab_app::lab_app;
-use crate::matched::{is_set, texts_of, u32_of, u64_of, value_of};
 use clap::error::ErrorKind;
 use clap::{ArgMatches, Error};
 use std::alloc::{AllocError, Global};
-use thiserror::Error as ThisError;
 
 /// An image, and how it is read.
 #[derive(Clone, Copy)]
@@ -79,213 +72,90 @@ pub enum LabCommand<'a> {
     },
 }
 
-/// Why the arguments of `etcs_lab` give no command.
-#[derive(Debug, Drop, ThisError)]
-pub enum LabArgsError {
-    /// Memory was refused.
-    #[error("memory was refused")]
-    OutOfMemory,
-    /// Help or the version is asked for: the text, for standard output.
-    #[error("{0}")]
-    Help(String),
-    /// The arguments are not those of a command: what is wrong, for standard error.
-    #[error("{0}")]
-    Refused(String),
-}
-
-// The image that the arguments name; None where its number of slots is no number.
-fn image_of<'a>(matches: &ArgMatches<'a>) -> Option<LabImage<'a>>
-    ensures { option_map image_values_of result ≡ image_values (rows_of (found_of matches.now)) }
-{
-    let path = value_of(matches, "IMAGE")?;
-    let slots = match value_of(matches, "slots") {
-        Some(text) => Some(u32_of(text)?),
-        None => None,
-    };
+fn image_of<'a>(matches: &ArgMatches<'a>) -> Option<LabImage<'a>> {
+    let path = matches.get_str("IMAGE")?;
+    let slots = matches.get_one::<u32>("slots");
     Some(LabImage { path, slots })
 }
 
-fn examine_command<'a>(matches: &ArgMatches<'a>) -> Option<LabCommand<'a>>
-    ensures { option_map values_of result ≡ flagged_values spec.examine (codes "json") (rows_of (found_of matches.now)) }
-{
+// The command of this name over an image.
+fn image_command<'a>(name: &str, matches: &ArgMatches<'a>) -> Option<LabCommand<'a>> {
     let image = image_of(matches)?;
-    let is_json = is_set(matches, "json");
-    Some(LabCommand::Examine { image, is_json })
+    let is_json = matches.get_flag("json");
+    match name {
+        "examine" => Some(LabCommand::Examine { image, is_json }),
+        "events" => {
+            let all = matches.get_flag("all");
+            Some(LabCommand::Events { image, all })
+        }
+        "replay" => Some(LabCommand::Replay { image, is_json }),
+        "check" => Some(LabCommand::Check { image, is_json }),
+        "why" => {
+            let event = matches.get_one::<u64>("EVENT");
+            let known = matches.get_flag("known");
+            Some(LabCommand::Why {
+                image,
+                event,
+                known,
+                is_json,
+            })
+        }
+        _ => None,
+    }
 }
 
-fn events_command<'a>(matches: &ArgMatches<'a>) -> Option<LabCommand<'a>>
-    ensures { option_map values_of result ≡ flagged_values spec.events (codes "all") (rows_of (found_of matches.now)) }
-{
-    let image = image_of(matches)?;
-    let all = is_set(matches, "all");
-    Some(LabCommand::Events { image, all })
+// The command of this name over a telegram, a scenario or an image.
+fn single_command<'a>(name: &str, matches: &ArgMatches<'a>) -> Option<LabCommand<'a>> {
+    let is_json = matches.get_flag("json");
+    match name {
+        "decode" => {
+            let hex = matches.get_str("HEX")?;
+            Some(LabCommand::Decode { hex, is_json })
+        }
+        "packets" => {
+            let hex = matches.get_str("HEX")?;
+            Some(LabCommand::Packets { hex, is_json })
+        }
+        "run" => {
+            let scenario = matches.get_str("SCENARIO")?;
+            Some(LabCommand::Run { scenario })
+        }
+        _ => image_command(name, matches),
+    }
 }
 
-fn replay_command<'a>(matches: &ArgMatches<'a>) -> Option<LabCommand<'a>>
-    ensures { option_map values_of result ≡ flagged_values spec.replay (codes "json") (rows_of (found_of matches.now)) }
-{
-    let image = image_of(matches)?;
-    let is_json = is_set(matches, "json");
-    Some(LabCommand::Replay { image, is_json })
-}
-
-fn check_command<'a>(matches: &ArgMatches<'a>) -> Option<LabCommand<'a>>
-    ensures { option_map values_of result ≡ flagged_values spec.check (codes "json") (rows_of (found_of matches.now)) }
-{
-    let image = image_of(matches)?;
-    let is_json = is_set(matches, "json");
-    Some(LabCommand::Check { image, is_json })
-}
-
-fn why_command<'a>(matches: &ArgMatches<'a>) -> Option<LabCommand<'a>>
-    ensures { option_map values_of result ≡ why_values (rows_of (found_of matches.now)) }
-{
-    let image = image_of(matches)?;
-    let event = match value_of(matches, "EVENT") {
-        Some(text) => Some(u64_of(text)?),
-        None => None,
+fn play_command<'a>(alloc: Global, matches: &ArgMatches<'a>) -> Result<LabCommand<'a>, AllocError> {
+    let files = match matches.get_raw("FILE") {
+        Some(files) => Vec::from_slice(alloc, files)?,
+        None => Vec::new(alloc),
     };
-    let known = is_set(matches, "known");
-    let is_json = is_set(matches, "json");
-    Some(LabCommand::Why {
-        image,
-        event,
-        known,
-        is_json,
-    })
-}
-
-fn decode_command<'a>(matches: &ArgMatches<'a>) -> Option<LabCommand<'a>>
-    ensures { option_map values_of result ≡ value_values spec.decode (codes "HEX") (rows_of (found_of matches.now)) }
-{
-    let hex = value_of(matches, "HEX")?;
-    let is_json = is_set(matches, "json");
-    Some(LabCommand::Decode { hex, is_json })
-}
-
-fn packets_command<'a>(matches: &ArgMatches<'a>) -> Option<LabCommand<'a>>
-    ensures { option_map values_of result ≡ value_values spec.packets (codes "HEX") (rows_of (found_of matches.now)) }
-{
-    let hex = value_of(matches, "HEX")?;
-    let is_json = is_set(matches, "json");
-    Some(LabCommand::Packets { hex, is_json })
-}
-
-fn run_command<'a>(matches: &ArgMatches<'a>) -> Option<LabCommand<'a>>
-    ensures { option_map values_of result ≡ option_map spec.run (first_of (codes "SCENARIO") (rows_of (found_of matches.now))) }
-{
-    let scenario = value_of(matches, "SCENARIO")?;
-    Some(LabCommand::Run { scenario })
-}
-
-// With these files.
-fn play_over<'a>(matches: &ArgMatches<'a>, files: Vec<&'a str>) -> Option<LabCommand<'a>>
-    ensures { option_map values_of result ≡ play_over (map (λ s. s.now) files.entry.items) (rows_of (found_of matches.now)) }
-{
-    let slots = match value_of(matches, "slots") {
-        Some(text) => Some(u32_of(text)?),
-        None => None,
-    };
-    let outputs = value_of(matches, "outputs");
-    let folder = value_of(matches, "images");
-    Some(LabCommand::Play {
+    Ok(LabCommand::Play {
         files,
-        slots,
-        outputs,
-        folder,
+        slots: matches.get_one::<u32>("slots"),
+        outputs: matches.get_str("outputs"),
+        folder: matches.get_str("images"),
     })
-}
-
-fn play_command<'a>(
-    alloc: Global,
-    matches: &ArgMatches<'a>,
-) -> Result<Option<LabCommand<'a>>, AllocError>
-    ensures { IfOk result (λ command. option_map values_of command ≡ play_values (rows_of (found_of matches.now))) }
-{
-    let files = texts_of(alloc, matches, "FILE")?;
-    Ok(play_over(matches, files))
-}
-
-// The command of a name over a telegram or one scenario.
-fn single_command<'a>(name: &str, matches: &ArgMatches<'a>) -> Option<LabCommand<'a>>
-    ensures { option_map values_of result ≡ single_values name.now (rows_of (found_of matches.now)) }
-{
-    if name == "decode" {
-        decode_command(matches)
-    } else if name == "packets" {
-        packets_command(matches)
-    } else if name == "run" {
-        run_command(matches)
-    } else {
-        None
-    }
-}
-
-// The command of a name over an image, or else over something other than scenarios.
-fn named_command<'a>(name: &str, matches: &ArgMatches<'a>) -> Option<LabCommand<'a>>
-    ensures { option_map values_of result ≡ named_values name.now (rows_of (found_of matches.now)) }
-{
-    if name == "examine" {
-        examine_command(matches)
-    } else if name == "events" {
-        events_command(matches)
-    } else if name == "replay" {
-        replay_command(matches)
-    } else if name == "check" {
-        check_command(matches)
-    } else if name == "why" {
-        why_command(matches)
-    } else {
-        single_command(name, matches)
-    }
 }
 
 fn matched_command<'a>(
     alloc: Global,
     matches: &ArgMatches<'a>,
-) -> Result<Option<LabCommand<'a>>, AllocError>
-    ensures { IfOk result (λ command. option_map values_of command ≡ matched_values (subcommand_rows_of matches.now)) }
-{
+) -> Result<Option<LabCommand<'a>>, AllocError> {
     match matches.subcommand() {
-        Some((name, inner)) if name == "play" => play_command(alloc, inner),
-        Some((name, inner)) => Ok(named_command(name, inner)),
+        Some(("play", inner)) => Ok(Some(play_command(alloc, inner)?)),
+        Some((name, inner)) => Ok(single_command(name, inner)),
         None => Ok(None),
     }
 }
 
-fn lab_matches<'a>(alloc: Global, args: &'a [String]) -> Result<ArgMatches<'a>, Error>
-    ensures matches { IfOk result (λ m. subcommand_rows_of m ≡ subcommand_of spec.lab_app (map string_bytes args.now)) }
-    ensures faults { FailsBy (fault_of spec.lab_app (map string_bytes args.now)) result }
-{
-    lab_app(alloc)?.try_get_matches_from(args)
-}
-
-// What the parser answers in place of matches.
-fn answer_of(alloc: Global, error: &Error) -> LabArgsError
-    ensures { kind_of error.now ≡ ErrorKind.OutOfMemory → result ≡ LabArgsError.OutOfMemory }
-{
-    if let ErrorKind::OutOfMemory = error.kind() {
-        return LabArgsError::OutOfMemory;
-    }
-    match format!(in alloc; "{error}") {
-        Ok(text) if error.use_stderr() => LabArgsError::Refused(text),
-        Ok(text) => LabArgsError::Help(text),
-        Err(_) => LabArgsError::OutOfMemory,
-    }
-}
-
-/// Parses the arguments of `etcs_lab`, without the program's name.
-pub fn parse_lab<'a>(alloc: Global, args: &'a [String]) -> Result<LabCommand<'a>, LabArgsError>
-    ensures ok { IfOk result (λ command. lab_values (map string_bytes args.now) ≡ Some (values_of command)) }
-    ensures err { IfErr result (λ error. error ≢ LabArgsError.OutOfMemory → lab_values (map string_bytes args.now) ≡ None) }
-{
-    match lab_matches(alloc, args) {
-        Ok(matches) => match matched_command(alloc, &matches) {
-            Ok(Some(command)) => Ok(command),
-            // The parser has checked every value.
-            Ok(None) => Err(LabArgsError::Refused(String::new(alloc))),
-            Err(_) => Err(LabArgsError::OutOfMemory),
-        },
-        Err(error) => Err(answer_of(alloc, &error)),
+/// Parses the arguments of `etcs_lab`, without the program's name. The error is the parser's answer: help or the version
+/// where that is asked for, what is wrong with the arguments, or that memory was refused.
+pub fn parse_lab<'a>(alloc: Global, args: &'a [String]) -> Result<LabCommand<'a>, Error> {
+    let mut app = lab_app(alloc)?;
+    let matches = app.try_get_matches_from_mut(args)?;
+    match matched_command(alloc, &matches)? {
+        Some(command) => Ok(command),
+        // The parser has checked that a command and its arguments are there.
+        None => Err(app.error(ErrorKind::MissingSubcommand, "there is no command")?),
     }
 }

@@ -1,10 +1,5 @@
-//! The command line of `etcs_lab` as `clap` has it. Each argument and each command has a function of its own, and each
-//! name is a literal there: a name that is a parameter makes its proof five times as long.
-ghost use Rattle.std.specs.Prelude.{IfOk, codes};
-ghost use Rattle.command_line.specs.Arguments.{IsApp, IsArg, required};
-ghost use Rattle.command_line.specs.LabArguments as spec;
+//! The commands of `etcs_lab`, as a table from which `clap`'s command is built.
 
-use crate::adding::{with_arg, with_subcommand};
 use crate::version::VERSION;
 use clap::builder::ValueParser;
 use clap::{Arg, ArgAction, Command};
@@ -27,197 +22,6 @@ Take a digest of the image before anything reads it, and work on a copy. The jou
 signature: this program finds damage, and does not show that nobody altered the image.
 ";
 
-fn json_arg<'a>(alloc: Global) -> Arg<'a>
-    ensures { IsArg (spec.flag (codes "json")) result }
-{
-    Arg::new(alloc, "json")
-        .long("json")
-        .action(ArgAction::SetTrue)
-        .help("Print JSON in place of text")
-}
-
-fn all_arg<'a>(alloc: Global) -> Arg<'a>
-    ensures { IsArg (spec.flag (codes "all")) result }
-{
-    Arg::new(alloc, "all")
-        .long("all")
-        .action(ArgAction::SetTrue)
-        .help("Include events of other blocks and of damaged ones, each with its source")
-}
-
-fn slots_arg<'a>(alloc: Global) -> Arg<'a>
-    ensures { IsArg spec.slots result }
-{
-    Arg::new(alloc, "slots")
-        .long("slots")
-        .value_name("N")
-        .value_parser(ValueParser::signed(2, 1_048_576))
-        .help("Read the image as one of N slots, whatever its first sector says")
-}
-
-fn image_arg<'a>(alloc: Global) -> Arg<'a>
-    ensures { IsArg (required (codes "IMAGE")) result }
-{
-    Arg::new(alloc, "IMAGE")
-        .required(true)
-        .help("Journal image: a file or a block device")
-}
-
-fn event_arg<'a>(alloc: Global) -> Arg<'a>
-    ensures { IsArg spec.event result }
-{
-    Arg::new(alloc, "EVENT")
-        .value_parser(ValueParser::unsigned(0, u64::MAX))
-        .help("Number of one event (default: each event at which brake, limit or a cause changes)")
-}
-
-fn known_arg<'a>(alloc: Global) -> Arg<'a>
-    ensures { IsArg (spec.flag (codes "known")) result }
-{
-    Arg::new(alloc, "known")
-        .long("known")
-        .action(ArgAction::SetTrue)
-        .help("Print what the unit knows of the train and the track too, after each event")
-}
-
-fn hex_arg<'a>(alloc: Global) -> Arg<'a>
-    ensures { IsArg (required (codes "HEX")) result }
-{
-    Arg::new(alloc, "HEX")
-        .required(true)
-        .help("Telegram in hexadecimal digits")
-}
-
-fn scenario_arg<'a>(alloc: Global) -> Arg<'a>
-    ensures { IsArg (required (codes "SCENARIO")) result }
-{
-    Arg::new(alloc, "SCENARIO")
-        .required(true)
-        .help("Scenario in the JSON that `etcs run` reads")
-}
-
-fn journal_slots_arg<'a>(alloc: Global) -> Arg<'a>
-    ensures { IsArg spec.slots result }
-{
-    Arg::new(alloc, "slots")
-        .long("slots")
-        .value_name("N")
-        .value_parser(ValueParser::signed(2, 1_048_576))
-        .help("Slots of each journal (default: 16)")
-}
-
-fn outputs_arg<'a>(alloc: Global) -> Arg<'a>
-    ensures { IsArg spec.outputs result }
-{
-    Arg::new(alloc, "outputs")
-        .long("outputs")
-        .value_name("WHICH")
-        .help("Outputs to print: all, last, changes or none (default: last)")
-}
-
-fn folder_arg<'a>(alloc: Global) -> Arg<'a>
-    ensures { IsArg spec.folder result }
-{
-    Arg::new(alloc, "images")
-        .long("images")
-        .value_name("DIR")
-        .help("Write each journal image as DIR/NUMBER.image, in the order of the scenarios")
-}
-
-fn scenarios_arg<'a>(alloc: Global) -> Arg<'a>
-    ensures { IsArg spec.files result }
-{
-    Arg::new(alloc, "FILE").action(ArgAction::Append).help(
-        "Scenarios, one on each line, or a single one in a file NAME.json; - is standard input (default: standard input)",
-    )
-}
-
-fn examine_app<'a>(alloc: Global) -> Result<Command<'a>, AllocError>
-    ensures { IfOk result (IsApp (spec.image_app (codes "examine") (codes "json"))) }
-{
-    let new = Command::new(alloc, "examine").about(
-        "Examine a journal image and list what each slot holds, what is lost and what contradicts",
-    );
-    let first = with_arg(Ok(new), json_arg(alloc));
-    let second = with_arg(first, slots_arg(alloc));
-    with_arg(second, image_arg(alloc))
-}
-
-fn events_app<'a>(alloc: Global) -> Result<Command<'a>, AllocError>
-    ensures { IfOk result (IsApp (spec.image_app (codes "events") (codes "all"))) }
-{
-    let new = Command::new(alloc, "events").about(
-        "Print each event of a journal as a JSON object on its own line, the oldest first",
-    );
-    let first = with_arg(Ok(new), all_arg(alloc));
-    let second = with_arg(first, slots_arg(alloc));
-    with_arg(second, image_arg(alloc))
-}
-
-fn replay_app<'a>(alloc: Global) -> Result<Command<'a>, AllocError>
-    ensures { IfOk result (IsApp (spec.image_app (codes "replay") (codes "json"))) }
-{
-    let new = Command::new(alloc, "replay").about(
-        "Run each power cycle through the kernel again and print the first record that differs",
-    );
-    let first = with_arg(Ok(new), json_arg(alloc));
-    let second = with_arg(first, slots_arg(alloc));
-    with_arg(second, image_arg(alloc))
-}
-
-fn check_app<'a>(alloc: Global) -> Result<Command<'a>, AllocError>
-    ensures { IfOk result (IsApp (spec.image_app (codes "check") (codes "json"))) }
-{
-    let new = Command::new(alloc, "check").about(
-        "Examine and replay a journal image, and end with one line for both",
-    );
-    let first = with_arg(Ok(new), json_arg(alloc));
-    let second = with_arg(first, slots_arg(alloc));
-    with_arg(second, image_arg(alloc))
-}
-
-fn why_app<'a>(alloc: Global) -> Result<Command<'a>, AllocError>
-    ensures { IfOk result (IsApp spec.why_app) }
-{
-    let new = Command::new(alloc, "why").about(
-        "Explain each brake command and speed limit of a journal",
-    );
-    let first = with_arg(Ok(new), json_arg(alloc));
-    let second = with_arg(first, slots_arg(alloc));
-    let third = with_arg(second, image_arg(alloc));
-    let fourth = with_arg(third, event_arg(alloc));
-    with_arg(fourth, known_arg(alloc))
-}
-
-fn decode_app<'a>(alloc: Global) -> Result<Command<'a>, AllocError>
-    ensures { IfOk result (IsApp (spec.value_app (codes "decode") (codes "HEX"))) }
-{
-    let new = Command::new(alloc, "decode").about(
-        "Decode a telegram, as `etcs decode` does or as JSON",
-    );
-    let first = with_arg(Ok(new), json_arg(alloc));
-    with_arg(first, hex_arg(alloc))
-}
-
-fn packets_app<'a>(alloc: Global) -> Result<Command<'a>, AllocError>
-    ensures { IfOk result (IsApp (spec.value_app (codes "packets") (codes "HEX"))) }
-{
-    let new = Command::new(alloc, "packets").about(
-        "List the packets of a telegram by their names in issue 2.3.0, with fields and use",
-    );
-    let first = with_arg(Ok(new), json_arg(alloc));
-    with_arg(first, hex_arg(alloc))
-}
-
-fn run_app<'a>(alloc: Global) -> Result<Command<'a>, AllocError>
-    ensures { IfOk result (IsApp spec.run_app) }
-{
-    let new = Command::new(alloc, "run").about(
-        "Run a scenario on an empty image in memory and print each output as JSON, with its causes",
-    );
-    with_arg(Ok(new), scenario_arg(alloc))
-}
-
 // What the help of `play` prints last.
 const PLAY_HELP: &str = "\
 A line is a JSON object: \"scenario\" is a scenario in the JSON that `etcs run` reads, or a list of scenarios, each played
@@ -232,25 +36,169 @@ Example:
 The exit status is 0 where each scenario was played to its end.
 ";
 
-fn play_app<'a>(alloc: Global) -> Result<Command<'a>, AllocError>
-    ensures { IfOk result (IsApp spec.play_app) }
-{
-    let new = Command::new(alloc, "play")
-        .about(
-            "Run many scenarios, each on an empty journal in memory, and print a JSON line for each",
-        )
-        .after_help(PLAY_HELP);
-    let first = with_arg(Ok(new), journal_slots_arg(alloc));
-    let second = with_arg(first, outputs_arg(alloc));
-    let third = with_arg(second, folder_arg(alloc));
-    with_arg(third, scenarios_arg(alloc))
+// What an argument takes.
+#[derive(Clone, Copy)]
+enum Takes {
+    // An option without a value.
+    Flag,
+    // An option with a text, by the name that help gives it.
+    Text(&'static str),
+    // An option with a number of slots.
+    Slots,
+    // A positional text that has to be there.
+    Required,
+    // A positional number of an event.
+    Event,
+    // Any number of positional texts.
+    Several,
 }
 
-// The program with no command yet.
-fn bare_app<'a>(alloc: Global) -> Result<Command<'a>, AllocError>
-    ensures { IfOk result (IsApp spec.bare_app) }
-{
-    Command::new(alloc, "etcs_lab")
+// An argument, by its name, and what help says of it.
+type ArgRow = (&'static str, Takes, &'static str);
+
+// A command, by its name.
+#[derive(Clone, Copy)]
+struct CommandRow {
+    name: &'static str,
+    about: &'static str,
+    args: &'static [ArgRow],
+}
+
+const JSON: ArgRow = ("json", Takes::Flag, "Print JSON in place of text");
+
+const SLOTS: ArgRow = (
+    "slots",
+    Takes::Slots,
+    "Read the image as one of N slots, whatever its first sector says",
+);
+
+const IMAGE: ArgRow = (
+    "IMAGE",
+    Takes::Required,
+    "Journal image: a file or a block device",
+);
+
+const HEX: ArgRow = ("HEX", Takes::Required, "Telegram in hexadecimal digits");
+
+const COMMANDS: [CommandRow; 8] = [
+    CommandRow {
+        name: "examine",
+        about: "Examine a journal image and list what each slot holds, what is lost and what contradicts",
+        args: &[JSON, SLOTS, IMAGE],
+    },
+    CommandRow {
+        name: "events",
+        about: "Print each event of a journal as a JSON object on its own line, the oldest first",
+        args: &[
+            (
+                "all",
+                Takes::Flag,
+                "Include events of other blocks and of damaged ones, each with its source",
+            ),
+            SLOTS,
+            IMAGE,
+        ],
+    },
+    CommandRow {
+        name: "replay",
+        about: "Run each power cycle through the kernel again and print the first record that differs",
+        args: &[JSON, SLOTS, IMAGE],
+    },
+    CommandRow {
+        name: "check",
+        about: "Examine and replay a journal image, and end with one line for both",
+        args: &[JSON, SLOTS, IMAGE],
+    },
+    CommandRow {
+        name: "why",
+        about: "Explain each brake command and speed limit of a journal",
+        args: &[
+            JSON,
+            SLOTS,
+            IMAGE,
+            (
+                "EVENT",
+                Takes::Event,
+                "Number of one event (default: each event at which brake, limit or a cause changes)",
+            ),
+            (
+                "known",
+                Takes::Flag,
+                "Print what the unit knows of the train and the track too, after each event",
+            ),
+        ],
+    },
+    CommandRow {
+        name: "decode",
+        about: "Decode a telegram, as `etcs decode` does or as JSON",
+        args: &[JSON, HEX],
+    },
+    CommandRow {
+        name: "packets",
+        about: "List the packets of a telegram by their names in issue 2.3.0, with fields and use",
+        args: &[JSON, HEX],
+    },
+    CommandRow {
+        name: "run",
+        about: "Run a scenario on an empty image in memory and print each output as JSON, with its causes",
+        args: &[(
+            "SCENARIO",
+            Takes::Required,
+            "Scenario in the JSON that `etcs run` reads",
+        )],
+    },
+];
+
+const PLAY: CommandRow = CommandRow {
+    name: "play",
+    about: "Run many scenarios, each on an empty journal in memory, and print a JSON line for each",
+    args: &[
+        ("slots", Takes::Slots, "Slots of each journal (default: 16)"),
+        (
+            "outputs",
+            Takes::Text("WHICH"),
+            "Outputs to print: all, last, changes or none (default: last)",
+        ),
+        (
+            "images",
+            Takes::Text("DIR"),
+            "Write each journal image as DIR/NUMBER.image, in the order of the scenarios",
+        ),
+        (
+            "FILE",
+            Takes::Several,
+            "Scenarios, one on each line, or a single one in a file NAME.json; - is standard input (default: standard input)",
+        ),
+    ],
+};
+
+fn arg_of<'a>(alloc: Global, row: ArgRow) -> Arg<'a> {
+    let (name, takes, help) = row;
+    let arg = Arg::new(alloc, name).help(help);
+    match takes {
+        Takes::Flag => arg.long(name).action(ArgAction::SetTrue),
+        Takes::Text(value) => arg.long(name).value_name(value),
+        Takes::Slots => arg
+            .long(name)
+            .value_name("N")
+            .value_parser(ValueParser::signed(2, 1_048_576)),
+        Takes::Required => arg.required(true),
+        Takes::Event => arg.value_parser(ValueParser::unsigned(0, u64::MAX)),
+        Takes::Several => arg.action(ArgAction::Append),
+    }
+}
+
+fn command_of<'a>(alloc: Global, row: CommandRow) -> Result<Command<'a>, AllocError> {
+    let mut command = Command::new(alloc, row.name).about(row.about);
+    for arg in row.args {
+        command = command.arg(arg_of(alloc, *arg))?;
+    }
+    Ok(command)
+}
+
+/// The program with all its commands.
+pub(crate) fn lab_app<'a>(alloc: Global) -> Result<Command<'a>, AllocError> {
+    let mut app = Command::new(alloc, "etcs_lab")
         .version(VERSION)
         .about(
             "Examine the journal images of an onboard unit, decode its telegrams and run its scenarios",
@@ -259,26 +207,9 @@ fn bare_app<'a>(alloc: Global) -> Result<Command<'a>, AllocError>
         .no_binary_name(true)
         .subcommand_required(true)
         .arg_required_else_help(true)
-        .bin_name("etcs_lab")
-}
-
-// With the commands that read an image.
-fn images_app<'a>(alloc: Global) -> Result<Command<'a>, AllocError>
-    ensures { IfOk result (IsApp spec.images_app) }
-{
-    let first = with_subcommand(bare_app(alloc), examine_app(alloc));
-    let second = with_subcommand(first, events_app(alloc));
-    let third = with_subcommand(second, replay_app(alloc));
-    let fourth = with_subcommand(third, check_app(alloc));
-    with_subcommand(fourth, why_app(alloc))
-}
-
-/// The program with all its commands.
-pub(crate) fn lab_app<'a>(alloc: Global) -> Result<Command<'a>, AllocError>
-    ensures { IfOk result (IsApp spec.lab_app) }
-{
-    let first = with_subcommand(images_app(alloc), decode_app(alloc));
-    let second = with_subcommand(first, packets_app(alloc));
-    let third = with_subcommand(second, run_app(alloc));
-    with_subcommand(third, play_app(alloc))
+        .bin_name("etcs_lab")?;
+    for row in COMMANDS {
+        app = app.subcommand(command_of(alloc, row)?)?;
+    }
+    app.subcommand(command_of(alloc, PLAY)?.after_help(PLAY_HELP))
 }

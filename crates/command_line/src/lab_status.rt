@@ -1,8 +1,11 @@
 //! How `etcs_lab` ends, and what it says on standard error.
-ghost use Rattle.std.specs.Prelude.{◌≡◌, IfErr, IfOk, is_err};
+ghost use Rattle.std.specs.Prelude.{◌≡◌, ◌⊎◌, IfErr, false, is_err, true};
 ghost use Rattle.std.specs.IoError.{error_kind};
-ghost use Rattle.command_line.specs.Statuses.{code_of, unread_status};
+ghost use Rattle.clap.specs.Words.{kind_of};
+ghost use Rattle.command_line.specs.Statuses.{code_of, is_help, unread_status, wrong_status};
 
+use clap::Error;
+use clap::error::ErrorKind as Kind;
 use std::io;
 use std::io::{ErrorKind, Write};
 
@@ -90,24 +93,29 @@ pub fn unread_for<R: Eprint>(rt: &R, path: &str, error: &io::Error) -> Status
     }
 }
 
-/// Writes a text that an argument asks for.
-pub fn text_reported<R: Eprint, W: Write>(
-    rt: &R,
-    text: &str,
-    command: &str,
-    out: &mut W,
-) -> Result<Status, Status>
-    ensures ok { IfOk result (λ status. status ≡ Status.Whole) }
-    ensures err { IfErr result (λ status. status ≡ Status.Unwritten) }
-{
-    reported(rt, command, out.write_all(text.as_bytes()))?;
-    Ok(Status::Whole)
-}
-
 /// Prints on standard error what is wrong with the arguments.
 pub fn refused_args<R: Eprint>(rt: &R, text: &str) -> Status
     ensures { result ≡ Status.Usage }
 {
     let _ = eprint!(rt; "{text}");
     Status::Usage
+}
+
+/// Prints what the parser answers in place of a command: help or the version where that is asked for, else on standard
+/// error what is wrong.
+pub fn answered_args<R: Eprint, W: Write>(rt: &R, error: &Error, out: &mut W) -> Status
+    ensures help { is_help (kind_of error.now) ≡ true → (result ≡ Status.Whole) ⊎ (result ≡ Status.Unwritten) }
+    ensures wrong { is_help (kind_of error.now) ≡ false → result ≡ wrong_status (kind_of error.now) }
+{
+    match error.kind() {
+        Kind::DisplayHelp | Kind::DisplayVersion => match write!(out, "{error}") {
+            Ok(()) => Status::Whole,
+            Err(_) => unwritten(rt, "help"),
+        },
+        Kind::OutOfMemory => no_memory(rt, "arguments"),
+        _ => {
+            let _ = eprint!(rt; "{error}");
+            Status::Usage
+        }
+    }
 }

@@ -12,5 +12,5 @@ mod process;
 mod version;
 
 pub use etcs::{EtcsArgsError, EtcsCommand, parse_etcs};
-pub use lab::{LabArgsError, LabCommand, LabImage, parse_lab};
+pub use lab::{LabCommand, LabImage, parse_lab};
 pub use process::{args_of, take_standard_streams};

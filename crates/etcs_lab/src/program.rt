@@ -3,9 +3,9 @@
 use crate::event_lines::events_reported;
 use crate::examined::{checked, examined, replayed};
 use crate::run::played;
-use crate::status::{Status, no_memory, refused_args, text_reported};
+use crate::status::{Status, answered_args};
 use crate::why::why_reported;
-use command_line::{LabArgsError, LabCommand, parse_lab};
+use command_line::{LabCommand, parse_lab};
 use lab_play::{PlayArgs, play_scenarios};
 use lab_telegrams::{decode_reported, packets_reported};
 use lab_why::Options;
@@ -71,11 +71,8 @@ pub(crate) fn answer<R: Files<File = File> + Input + AllocGlobal + Eprint, W: Wr
     is_watched: bool,
     out: &mut W,
 ) -> Status {
-    let done = match parse_lab(rt.alloc(), args) {
-        Ok(command) => execute(rt, command, is_watched, out),
-        Err(LabArgsError::Help(text)) => text_reported(rt, text.as_str(), "help", out),
-        Err(LabArgsError::Refused(text)) => Err(refused_args(rt, text.as_str())),
-        Err(LabArgsError::OutOfMemory) => Err(no_memory(rt, "arguments")),
-    };
-    done.unwrap_or_else(|status| status)
+    match parse_lab(rt.alloc(), args) {
+        Ok(command) => execute(rt, command, is_watched, out).unwrap_or_else(|status| status),
+        Err(error) => answered_args(rt, &error, out),
+    }
 }

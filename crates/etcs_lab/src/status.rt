@@ -1,6 +1,6 @@
 //! How the program ends, and what it says on standard error.
 
 pub(crate) use command_line::lab_status::{
-    Status, fail, no_memory, refused_args, reported, text_reported, unformatted, unread,
+    Status, answered_args, fail, no_memory, refused_args, reported, unformatted, unread,
     unread_for, unwritten,
 };

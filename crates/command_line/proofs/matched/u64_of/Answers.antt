@@ -1,7 +1,0 @@
-use Rattle.std.proofs.Common.{◌∙◌, refl, arith}
-use Rattle.command_line.specs.Arguments.{most_u64}
-use Rattle.command_line.proofs.Numbers.{number_read}
-use Rattle.command_line.proofs.matched.u64_of.Goals as goal
-
-pub returns : goal.returns
-returns c = c.ok.ensures.value ∙ number_read 64 most_u64 c.args.text.now c.parse.result refl (omega arith) c.parse.ensures.value.0

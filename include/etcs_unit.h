@@ -664,7 +664,7 @@ static inline uint32_t etcs_version(uint8_t *out, size_t room, uint32_t *len) {
 }
 
 /** Writes which build the library is, such as "Gaknifur 0.1.0, commit 1a2b3c4d, sources DIGEST, proved", with a zero at its end,
- * and its length without that zero to `len`. DIGEST is the SHA-256 of the sources that the proof reads (tools/source_digest).
+ * and its length without that zero to `len`. DIGEST is the SHA-256 of the sources that the proof reads (tools/version --sources).
  * Returns OK, or NO_ROOM; then nothing is written. ETCS_BUILD_INFO_BYTES are always enough. The library's file contains the
  * same text. Compare it with that of the library that you validated. This call and the next one are C code outside of the
  * proof. */

@@ -1,4 +1,4 @@
-/* The C source of the library: what its calls (etcs_calls.c, which tools/source_calls writes) and wabt's translation of the
+/* The C source of the library: what its calls (etcs_calls.c, which tools/bindings --calls writes) and wabt's translation of the
  * module (etcs_wasm.c) need of C. The module has one memory, which is the buffer that the maker hands to etcs_memory_use; its
  * numbers lie there with the lowest byte first. Where the highest byte comes first, wabt keeps that memory reversed. */
 #include "source.h"

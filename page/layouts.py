@@ -1,4 +1,4 @@
-"""Writes page/layouts.ts for tools/page: the structs of the headers as the page reads them, with the offsets of gaknifur.units._header,
+"""Writes layouts.ts for tools/page: the structs of the headers as the page reads them, with the offsets of gaknifur.units._header,
 and the words and texts of modes, brakes, indications and causes that the package has too."""
 import ctypes
 import json
@@ -32,7 +32,7 @@ why Why etcs_why: event since tripEvent backward allowedBackward causeAt=limit_c
 """
 SUFFIXES = ("", "_cm", "_ms", "_m_per_h", "_cm_per_s2", "_event")
 HEAD = """// The structs of include/etcs_unit.h, etcs_image.h and etcs_guard.h, as the calls write them, the readers of their bytes,
-// and the words and texts of numbers. All numbers are little-endian. Written by tools/page_layouts.py.
+// and the words and texts of numbers. All numbers are little-endian. Written by page/layouts.py.
 """
 READER = """
 /**

@@ -1,4 +1,4 @@
-"""Run a power cycle (life) with `etcs run`, and read the lines that it prints (docs/reference/etcs-lines.md)."""
+"""Run a power cycle (life) with `etcs run`, and read the lines that it prints (docs/reference/examination.md)."""
 import re
 from collections.abc import Sequence
 from dataclasses import dataclass

@@ -6,6 +6,7 @@ mod demand;
 mod description;
 mod findings;
 mod hex_text;
+mod image_ring;
 mod kept;
 mod records;
 mod sink;

@@ -7,7 +7,6 @@ mod listing;
 mod names;
 mod parts;
 mod place;
-mod plan;
 mod salvage;
 mod source;
 

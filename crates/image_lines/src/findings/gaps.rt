@@ -1,7 +1,8 @@
 //! The lines of what is lost between blocks, and of what contradicts.
 
-use crate::findings::slots::{Ring, is_held};
+use crate::findings::slots::is_held;
 use crate::findings::verdict::ExamineLine;
+use crate::image_ring::ImageRing;
 use crate::sink::{LineSink, hand_on_each};
 use blocks::Block;
 use disk::Disk;
@@ -133,18 +134,18 @@ fn line_if(is_so: bool, line: BetweenLine) -> Option<ExamineLine> {
 /// sink.
 pub(crate) fn report_between<D: Disk, S: LineSink<ExamineLine>>(
     disk: &mut D,
-    ring: Ring,
+    ring: ImageRing,
     sink: &mut S,
 ) -> Result<bool, WalkError> {
     let mut block = Block::blank();
     let mut walk = Walk::START;
-    for number in oldest_of(ring.slots, ring.newest)..ring.newest + 1 {
+    for number in oldest_of(ring.slots, ring.run.newest)..ring.run.newest + 1 {
         walk = if is_held(disk, ring, number, &mut block)? {
             walk.with(number, &block, sink)?
         } else {
             walk.without(number)
         };
     }
-    hand_on_each(&[walk.gap_line(ring.newest, None)], sink)?;
+    hand_on_each(&[walk.gap_line(ring.run.newest, None)], sink)?;
     Ok(walk.is_clean)
 }

@@ -1,11 +1,9 @@
 //! The lines of all slots.
-ghost use Rattle.std.specs.Prelude.{◌<◌, ◌≤◌};
-ghost use Rattle.blocks.specs.FirstSector.{most_slots};
-ghost use Rattle.blocks.specs.Heads.{last_number};
 
 use crate::findings::names::{write_field, write_format};
 use crate::findings::verdict::ExamineLine;
-use crate::sink::{LineSink, hand_on_each};
+use crate::image_ring::ImageRing;
+use crate::sink::{LineSink, hand_on};
 use blocks::{Block, Format};
 use disk::Disk;
 use examination::{Fault, FieldName, Slot, SlotState, first_event, slot_at};
@@ -97,17 +95,6 @@ pub struct SlotLine {
     pub content: SlotContent,
 }
 
-// What is reported of a slot along with what it holds.
-#[derive(Clone, Copy)]
-struct SlotPlace {
-    // Its number.
-    slot: u32,
-    // The number of the oldest block of the journal, 0 where the image has none.
-    first: u64,
-    // Whether the slot that a misplaced number belongs to holds that block too.
-    twice: bool,
-}
-
 // What a block of this number reports of itself.
 fn facts_of(number: u64, block: &Block) -> BlockFacts {
     BlockFacts {
@@ -120,30 +107,37 @@ fn facts_of(number: u64, block: &Block) -> BlockFacts {
 }
 
 // What begins with this number, with its first wrong field.
-fn unreadable_block(slot: u32, number: u64, fault: Option<Fault>) -> UnreadableBlock {
+fn unreadable_block(slot: u64, number: u64, fault: Option<Fault>) -> UnreadableBlock {
     let place = fault.map_or(0, |fault| fault.place);
+    let first = slot.saturating_mul(3072).saturating_add(1024);
     UnreadableBlock {
         block: number,
         field: fault.map(|fault| fault.name),
         record: if place == 0 { None } else { Some(place) },
-        byte: fault.map(|fault| 512 * (2 + 6 * u64::from(slot)) + u64::from(fault.at)),
+        byte: fault.map(|fault| first.saturating_add(u64::from(fault.at))),
     }
 }
 
-// What a slot holds; None where it is empty.
-fn content_of(place: SlotPlace, seen: Slot, block: &Block) -> Option<SlotContent> {
+// What a slot holds; None where it is empty. A misplaced number may be in its own slot too.
+fn content_of(
+    ring: ImageRing,
+    slot: u64,
+    seen: Slot,
+    is_twice: bool,
+    block: &Block,
+) -> Option<SlotContent> {
     match seen.state {
         SlotState::Block(number) => Some(SlotContent::Block(OwnBlock {
             facts: facts_of(number, block),
             gate_is_own: seen.is_sound,
-            in_journal: place.first != 0 && place.first <= number,
+            in_journal: ring.has(number),
         })),
         SlotState::Unreadable(number) => Some(SlotContent::Unreadable(unreadable_block(
-            place.slot, number, seen.fault,
+            slot, number, seen.fault,
         ))),
         SlotState::Misplaced(number) => Some(SlotContent::Misplaced(MisplacedBlock {
             block: number,
-            also_in_its_slot: place.twice,
+            also_in_its_slot: is_twice,
         })),
         SlotState::Foreign => Some(SlotContent::Foreign),
         SlotState::Unwritten(number) => Some(SlotContent::Unwritten(facts_of(number, block))),
@@ -153,37 +147,11 @@ fn content_of(place: SlotPlace, seen: Slot, block: &Block) -> Option<SlotContent
     }
 }
 
-// The line of a slot, if it isn't empty.
-fn slot_line(place: SlotPlace, seen: Slot, block: &Block) -> Option<ExamineLine> {
-    let content = content_of(place, seen, block)?;
-    let slot = u64::from(place.slot);
-    Some(ExamineLine::Slot(SlotLine {
-        slot,
-        first_sector: 1 + 6 * slot,
-        last_sector: 6 + 6 * slot,
-        content,
-    }))
-}
-
-/// A ring that is examined.
-#[derive(Clone, Copy)]
-pub(crate) struct Ring {
-    /// How many slots it has.
-    pub(crate) slots: u64,
-    /// How many of them the image has whole.
-    pub(crate) whole: u64,
-    /// The number of its newest block, 0 where it has none.
-    pub(crate) newest: u64,
-    /// The number of the oldest block of its journal, 0 where it has none.
-    pub(crate) first: u64,
-    ghost bounds: { (whole ≤ slots) × (0 < slots) × (slots ≤ most_slots) × (newest ≤ last_number) },
-}
-
 /// Whether the slot of this number holds its block, which then is this one. DeviceFault where the read fails, or the disk
 /// hasn't the sectors of the whole slots.
 pub(crate) fn is_held<D: Disk>(
     disk: &mut D,
-    ring: Ring,
+    ring: ImageRing,
     number: u64,
     block: &mut Block,
 ) -> Result<bool, WalkError> {
@@ -197,7 +165,7 @@ pub(crate) fn is_held<D: Disk>(
 /// where a read fails, or the disk hasn't the sectors of a whole slot; else the error of the sink.
 pub(crate) fn report_slots<D: Disk, S: LineSink<ExamineLine>>(
     disk: &mut D,
-    ring: Ring,
+    ring: ImageRing,
     sink: &mut S,
 ) -> Result<bool, WalkError> {
     let mut block = Block::blank();
@@ -206,19 +174,22 @@ pub(crate) fn report_slots<D: Disk, S: LineSink<ExamineLine>>(
         if disk.sectors() < 7 + 6 * slot {
             return Err(WalkError::DeviceFault);
         }
-        let seen = slot_at(disk, ring.slots, ring.newest, slot, &mut block).map_err(
+        let seen = slot_at(disk, ring.slots, ring.run.newest, slot, &mut block).map_err(
             |_| WalkError::DeviceFault,
         )?;
-        let twice = match seen.state {
+        let is_twice = match seen.state {
             SlotState::Misplaced(number) => is_held(disk, ring, number, &mut Block::blank())?,
             _ => false,
         };
-        let place = SlotPlace {
-            slot: slot as u32,
-            first: ring.first,
-            twice,
-        };
-        hand_on_each(&[slot_line(place, seen, &block)], sink)?;
+        if let Some(content) = content_of(ring, slot, seen, is_twice, &block) {
+            let line = SlotLine {
+                slot,
+                first_sector: 1 + 6 * slot,
+                last_sector: 6 + 6 * slot,
+                content,
+            };
+            hand_on(&ExamineLine::Slot(line), sink)?;
+        }
         is_sound = is_sound && seen.is_sound;
     }
     Ok(is_sound)

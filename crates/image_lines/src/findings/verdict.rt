@@ -1,15 +1,13 @@
 //! An examination of an image, from its first sector to the verdict.
-ghost use Rattle.std.specs.Prelude.{◌<◌, ◌≤◌};
-ghost use Rattle.blocks.specs.FirstSector.{most_slots};
-ghost use Rattle.blocks.specs.Heads.{last_number};
 
 use crate::findings::gaps::{BetweenLine, report_between};
 use crate::findings::image::{FileFacts, ImageFacts, image_facts};
 use crate::findings::power_up::{JournalObject, Opened, PowerUpResult, opened_on};
-use crate::findings::slots::{Ring, SlotLine, report_slots};
+use crate::findings::slots::{SlotLine, report_slots};
+use crate::image_ring::ring_of;
 use crate::sink::{LineSink, hand_on, hand_on_each};
 use disk::Disk;
-use examination::{FirstSector, Survey, first_sector_of, survey_of};
+use examination::{FirstSector, first_sector_of, survey_of};
 use lives::WalkError;
 use serde::Serialize;
 
@@ -40,31 +38,6 @@ pub enum Verdict {
     Refused,
     /// Something is lost or damaged, or contradicts.
     NotWhole,
-}
-
-// Whether an image has the first sector of so many slots, and just their sectors.
-fn is_sized(first: FirstSector, sectors: u64, slots: u64) -> bool
-    requires { slots ≤ most_slots }
-{
-    let is_described = matches!(first, FirstSector::Readable(reported) if reported == slots);
-    is_described && sectors == 1 + 6 * slots
-}
-
-// The ring of so many slots of an image that was surveyed and opened so.
-fn ring_of(survey: Survey, slots: u64, opened: &Opened) -> Ring
-    requires slots { (survey.whole ≤ slots) × (0 < slots) × (slots ≤ most_slots) }
-    requires newest { survey.newest ≤ last_number }
-{
-    let first = match opened.journal {
-        Some(journal) => journal.first_block.unwrap_or(0),
-        None => 0,
-    };
-    Ring {
-        slots,
-        whole: survey.whole,
-        newest: survey.newest,
-        first,
-    }
 }
 
 // Hands on the journal, what a power-up would do, and the verdict.
@@ -100,10 +73,12 @@ pub fn examine<D: Disk, S: LineSink<ExamineLine>>(
         report_last(opened, Verdict::Refused, sink)?;
         return Ok(Verdict::Refused);
     };
-    let ring = ring_of(survey, slots, &opened);
+    let ring = ring_of(disk, survey, slots)?;
     let is_sound = report_slots(disk, ring, sink)?;
     let is_clean = report_between(disk, ring, sink)?;
-    let is_sized = is_sized(first_sector_of(&file.first), survey.sectors, slots);
+    let is_described =
+        matches!(first_sector_of(&file.first), FirstSector::Readable(own) if own == slots);
+    let is_sized = is_described && ring.is_sized();
     let verdict = if is_sound && is_clean && is_sized && opened.power_up.opens {
         Verdict::Whole
     } else {

@@ -21,7 +21,7 @@ from named import written  # noqa: E402
 
 CALLS = ("begin", "request", "provide", "done", "prepare", "release", "telegram", "odometer", "clock", "action", "identity",
          "running_number", "train_data")
-MODES = {0: "FS", 6: "SB"}
+MODES = {0: "FS", 2: "SR", 6: "SB"}
 
 # A start or a reading before 690 gradients, one every 10 cm, that two sums and two ways back pass. A reading before 690 gradients and 32 restrictions,
 # announced from the farthest to the nearest, or by turns; before 40 of which each slower one is nearer; before stairs of restrictions, mode areas and
@@ -104,12 +104,18 @@ TRACK = (f"{authority(10_000)}; {listed(21, 'D_GRADIENT {}, Q_GDIR 1, G_A {}', [
 FULL = started("20000 160000 70 1000 15", TRACK, *restrictions([(300 + 40 * at, 14 + at % 8) for at in range(16)], length=20))
 CALM = started("20000 160000 70 0 15", f"{authority(32_000)}; {gradients([(0, 0)])[0]}; {speeds((0, 32))}")
 
+STILL = CALM + ["odometer 1 300"] * 20
+GROUP, OPEN = ("telegram " + written(f"{head}NID_BG 100; {TRACK}") for head in ("", "N_TOTAL 1, "))
+
 # Name, slots, mode after it, the lines of a scenario, of which the last is counted.
 ROWS = (
     ("a moment of the clock in Stand By", 16, "SB", ["cold 0", "action 1", "clock 1000", "clock 2000"]),
     ("a reading of 1 cm in Full Supervision", 16, "FS", CALM + ["odometer 1 300"] * 20),
     ("a reading of 1 m with a reaction time, restrictions ahead", 16, "FS", FULL + ["odometer 100 30000"] * 4),
-    ("a telegram of a group of its own in Full Supervision", 16, "FS", [*FULL, "odometer 100 30000", "telegram " + written("NID_BG 100; " + TRACK)]),
+    ("a reading of 10 cm in Staff Responsible", 16, "SR", [*started("20000 160000 70 0 15"), "odometer 10 300", "odometer 10 300"]),
+    ("a telegram of a group of its own in Full Supervision", 16, "FS", [*FULL, "odometer 100 30000", GROUP]),
+    ("a repeat of it, the limit steady", 16, "FS", [*STILL, GROUP, "odometer 1 300", "odometer 1 300", "odometer 1 300", GROUP]),
+    ("a moment after it, its group still open", 16, "FS", [*STILL, OPEN, "clock 1000"]),
     ("a flush of eight readings", 16, "FS", [*CALM, "flush"] + ["odometer 1 300"] * 8 + ["flush"]),
     ("a power-up on 4 empty slots", 4, "SB", ["cold 0"]),
 )

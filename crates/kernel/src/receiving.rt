@@ -1,5 +1,5 @@
 //! What an event does.
-ghost use Rattle.std.specs.Prelude.{◌≡◌, true, List, [], ◌∷◌, IsOk, OnOk, OnErr};
+ghost use Rattle.std.specs.Prelude.{◌≡◌, true, false, List, [], ◌∷◌, IsOk, OnOk, OnErr};
 ghost use Rattle.events.specs.declared.input.Event.{Event};
 ghost use Rattle.events.specs.declared.input.Event.TheVariants as event;
 ghost use Rattle.kernel.specs.Lives.{Past, past_after, counted};
@@ -34,23 +34,24 @@ impl Parts {
     }
 }
 
-// An input closes no balise group: a reading or a moment, while none is being read.
+// An input can close no balise group: a moment, or a reading while none is being read.
 fn closes_none<T: ProfileStores>(supervision: &SupervisionOver<T>, input: &Input) -> bool
     ensures none { (life : Life) → SupervisionStandsForLife T.stores supervision.now life → result ≡ true
         → (entry_of life input.now).track.used.groups ≡ [] }
     ensures idle { result ≡ true → closes_no_group supervision.now.track.parts input.now ≡ true }
 {
     match input {
-        Input::Odometer(_) | Input::Clock(_) => supervision.track().group_being_read().is_none(),
+        Input::Clock(_) => true,
+        Input::Odometer(_) => supervision.track().group_being_read().is_none(),
         Input::Telegram(_) | Input::Driver(_) => false,
     }
 }
 
 // An event is calm that closes no group and keeps the mode.
-fn is_calm(closes_none: bool, before: Mode, after: Mode) -> bool
-    ensures { result ≡ true → (closes_none ≡ true) × (is_mode before after ≡ true) }
+fn is_calm(closes: bool, before: Mode, after: Mode) -> bool
+    ensures { result ≡ true → (closes ≡ false) × (is_mode before after ≡ true) }
 {
-    closes_none && after.number() == before.number()
+    !closes && after.number() == before.number()
 }
 
 // What an input shows that was just received, with the limit after it.
@@ -86,11 +87,11 @@ impl<T: ProfileStores> StateOver<T> {
     {
         let closes_none = closes_none(&self.supervision, input);
         let mode = self.supervision.mode();
-        self.supervision.begin(input)?;
+        let closes = self.supervision.begin(input)?;
         self.carried.move_on(closes_none, input, &self.supervision);
         let before_end = self.carried.steady.is_some();
         let passed = self.supervision.finish(&self.carried.still, before_end);
-        let calm = is_calm(closes_none, mode, self.supervision.mode());
+        let calm = is_calm(closes, mode, self.supervision.mode());
         let limit = self.carried.limit_after(passed, calm, &self.supervision);
         let sight = sight_of(&self.supervision, input, limit);
         self.parts.note(&sight);

@@ -1,5 +1,5 @@
 //! What an input does, sentence by sentence in the order of one event.
-ghost use Rattle.std.specs.Prelude.{◌≡◌, ◌≤◌, ◌∷◌, true, false, IsOk, IsTrue, IsSome, IfSome, OnOk, OnErr, Option, None};
+ghost use Rattle.std.specs.Prelude.{◌≡◌, ◌≤◌, ◌∷◌, true, false, IsOk, IsTrue, IsSome, IfOk, IfSome, OnOk, OnErr, Option, None, []};
 ghost use Rattle.units.specs.Limits.{HasReach};
 ghost use Rattle.track_picture.specs.Sentences.{span_with};
 ghost use Rattle.mode_control.specs.History.{tracks};
@@ -35,21 +35,23 @@ fn has_reach(place: Cm) -> bool
 impl<T: ProfileStores> SupervisionOver<T> {
     /// An event begins: what the input itself brings, and the groups that it closes. Where memory is refused, nothing
     /// changes; none is refused where there is space for what the input may use. An input that uses no packet keeps no more
-    /// track. `finish` ends the event.
-    pub fn begin(&mut self, input: &Input) -> Result<(), NoMemory>
+    /// track. Answers whether a group closes. `finish` ends the event.
+    pub fn begin(&mut self, input: &Input) -> Result<bool, NoMemory>
         ensures quiet { HasSpaceFor T.stores self.old.track input.now → IsOk result }
         ensures idle { packets_by self.old.track.parts input.now ≡ 0 → OnOk result (size_in T.stores self.new.track ≡ size_in T.stores self.old.track) }
         ensures stands { OnOk result ((life : Life) → StandsForLife T.stores self.old life
             → StandsForLife T.stores self.new (grown life (initial (reported life input.now) (deed_of life input.now)))) }
+        ensures none { IfOk result (λ closes. (life : Life) → StandsForLife T.stores self.old life → closes ≡ false
+            → (reported life input.now).used.groups ≡ []) }
         ensures kept { closes_none self.old.track.parts input.now ≡ true → OnOk result
             ((self.new.parts ≡ record self.old.parts { done = None }) × SameAhead self.old.track.parts self.new.track.parts) }
         ensures err { OnErr result (self.new ≡ self.old) }
     {
         let deed = self.deed(input);
         let mode = self.mode();
-        self.track.receive(mode, input)?;
+        let closes = self.track.receive(mode, input)?;
         self.parts.note(&deed);
-        Ok(())
+        Ok(closes)
     }
 
     // The track far behind the train is forgotten. Where the train was seen counts while it has the same length.

@@ -27,8 +27,8 @@ use track_picture::ProfileStores;
 use track_store::Profile;
 use units::{Cm, Mph, Stretch};
 
-// The most restrictions, static speeds and gradients, each, that a search goes along.
-const MOST_PIECES: usize = 64;
+// The most restrictions, static speeds and gradients, each, that a search goes along: one of each every 200 m of 32 km.
+const MOST_PIECES: usize = 160;
 
 /// A limit in Full Supervision or On Sight that holds wherever the train is within a window, while its bounds, its brakes
 /// and the national speeds are these and the track isn't reported anew (this project's profile).

@@ -1,5 +1,5 @@
 -- A movement: what stands for the life after it, before the group is used that it closes, and where it closes none.
-use Rattle.std.proofs.Common.{◌≡◌, ◌∷◌, Option, None, sym, subst}
+use Rattle.std.proofs.Common.{◌≡◌, [], ◌∷◌, Option, None, sym, subst}
 use Rattle.balise_groups.specs.declared.message.Closed.{Closed}
 use Rattle.events.specs.declared.input.Reading.{Reading}
 use Rattle.mode_table.specs.declared.mode.Mode.{Mode}
@@ -11,6 +11,11 @@ use Rattle.track_picture.specs.StandsFor.{KnownTrack, Knowledge, Life, grown_so_
 use Rattle.track_picture.specs.Stores.{Stores}
 use Rattle.track_picture.proofs.Standing.{reported_as}
 use Rattle.track_picture.proofs.Description.{reported_missed}
+
+-- where no group is left, none is used
+pub none_left : (mode : Mode) (life : Life) (reading : Reading) → left_by life.entries reading ≡ None →
+    (with_groups mode life.entries (moved life.entries reading) (happened_by life.entries reading)).groups ≡ []
+none_left mode life reading none = λ i. (with_closed mode life.entries (moved life.entries reading) (none i) (after_moving life.entries reading)).groups
 
 module _ {G S : Type 0} {stores : Stores G S} {known : Knowledge G S} {parts : KnownTrack} where
   pub moved_only : (life : Life) (reading : Reading) → parts ≡ known_moved life reading → StandsForColumns stores known life →

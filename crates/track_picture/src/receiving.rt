@@ -1,5 +1,5 @@
 //! What an input does: its own effect, and then that of the groups which it closes.
-ghost use Rattle.std.specs.Prelude.{◌≡◌, ◌≤◌, ◌+◌, ℕ, length, true, false, List, ◌∷◌, IsOk, OnOk, OnErr, Some, None, is_none};
+ghost use Rattle.std.specs.Prelude.{◌≡◌, ◌≤◌, ◌+◌, ℕ, length, true, false, List, [], ◌∷◌, IsOk, IfOk, OnOk, OnErr, Some, None, is_none};
 ghost use Rattle.events.specs.declared.input.Reading.{Reading as Reported};
 ghost use Rattle.balise_groups.specs.PacketCounts.{packets_in, packets_of_closed};
 ghost use Rattle.track_picture.specs.Bytes.{telegram_in};
@@ -108,88 +108,111 @@ impl Parts {
     }
 }
 
+// Whether one of two groups closes.
+fn is_any(ended: &Option<Closed>, whole: &Option<Closed>) -> bool
+    ensures { result ≡ false → (ended.now ≡ None) × (whole.now ≡ None) }
+{
+    match (ended, whole) {
+        (None, None) => false,
+        _ => true,
+    }
+}
+
 impl<T: ProfileStores> TracksideOver<T> {
-    // A movement while a group is being read, and the group that closes by it. There is space for its packets.
-    fn move_on(&mut self, mode: Mode, reading: &Reading)
+    // A movement while a group is being read, and the group that closes by it. There is space for its packets. Answers
+    // whether one closes.
+    fn move_on(&mut self, mode: Mode, reading: &Reading) -> bool
         requires { packets_in self.old.parts.groups.readings ≤ space_in T.stores self.old }
         ensures idle { packets_in self.old.parts.groups.readings ≡ 0 → SameTrack self.old self.new }
         ensures stands { (life : Life) → StandsForColumns T.stores self.old life
             → StandsForColumns T.stores self.new (grown_so_far life (moved life.entries reading.now)
             (with_groups mode life.entries (moved life.entries reading.now) (happened_by life.entries reading.now))) }
+        ensures none { (life : Life) → StandsForColumns T.stores self.old life → result ≡ false
+            → (with_groups mode life.entries (moved life.entries reading.now) (happened_by life.entries reading.now)).groups ≡ [] }
     {
         if self.parts.go(reading) {
             let ended = self.parts.leave();
             self.close(mode, &ended);
+            true
+        } else {
+            false
         }
     }
 
-    // A movement, and the group that closed by it. Where memory is refused, nothing changes.
-    fn move_by(&mut self, mode: Mode, reading: &Reading) -> Result<(), NoMemory>
+    // A movement, and the group that closed by it. Answers whether one did. Where memory is refused, nothing changes.
+    fn move_by(&mut self, mode: Mode, reading: &Reading) -> Result<bool, NoMemory>
         ensures quiet { HasSpaceFor T.stores self.old (inputs.Odometer reading.now) → IsOk result }
         ensures idle { packets_by self.old.parts (inputs.Odometer reading.now) ≡ 0 → OnOk result (SameTrack self.old self.new) }
         ensures stands { OnOk result ((life : Life) → StandsForColumns T.stores self.old life
             → StandsForColumns T.stores self.new (grown_so_far life (moved life.entries reading.now)
             (with_groups mode life.entries (moved life.entries reading.now) (happened_by life.entries reading.now)))) }
+        ensures none { IfOk result (λ closes. (life : Life) → StandsForColumns T.stores self.old life → closes ≡ false
+            → (with_groups mode life.entries (moved life.entries reading.now) (happened_by life.entries reading.now)).groups ≡ []) }
         ensures kept { closes_none self.old.parts (inputs.Odometer reading.now) ≡ true → OnOk result (SameAhead self.old.parts self.new.parts) }
         ensures err { OnErr result (self.new ≡ self.old) }
     {
         if self.parts.groups.is_idle() {
             self.parts.go(reading);
-            return Ok(());
+            return Ok(false);
         }
         let packets = self.parts.groups.packets();
         self.make_space(packets)?;
-        self.move_on(mode, reading);
-        Ok(())
+        Ok(self.move_on(mode, reading))
     }
 
     // A telegram: the group that it ends closes, and after that its own where that is whole now. There is space for the
-    // packets of both.
-    fn take(&mut self, mode: Mode, telegram: Received)
+    // packets of both. Answers whether one closes.
+    fn take(&mut self, mode: Mode, telegram: Received) -> bool
         requires { packets_in self.old.parts.groups.readings + length telegram.packets.items ≤ space_in T.stores self.old }
         ensures idle { packets_in self.old.parts.groups.readings + length telegram.packets.items ≡ 0 → SameTrack self.old self.new }
         ensures stands { (life : Life) (bytes : List ℕ) → StandsForColumns T.stores self.old life → telegram_in bytes ≡ Some telegram
             → StandsForColumns T.stores self.new (grown_so_far life (heard life.entries bytes)
             (with_groups mode life.entries (heard life.entries bytes) nothing_happened)) }
+        ensures none { (life : Life) (bytes : List ℕ) → StandsForColumns T.stores self.old life → telegram_in bytes ≡ Some telegram
+            → result ≡ false → (with_groups mode life.entries (heard life.entries bytes) nothing_happened).groups ≡ [] }
     {
         let mut ended = None;
         let mut whole = None;
         self.parts.hear(telegram, &mut ended, &mut whole);
         self.close(mode, &ended);
         self.close(mode, &whole);
+        is_any(&ended, &whole)
     }
 
     // A telegram, once there is space for what it may close. It stands out of line, so that other inputs clear no
-    // memory for groups. Where memory is refused, nothing changes.
+    // memory for groups. Answers whether a group closes. Where memory is refused, nothing changes.
     #[inline(never)]
-    fn read(&mut self, mode: Mode, telegram: Received) -> Result<(), NoMemory>
+    fn read(&mut self, mode: Mode, telegram: Received) -> Result<bool, NoMemory>
         ensures quiet { packets_in self.old.parts.groups.readings + length telegram.packets.items ≤ space_in T.stores self.old → IsOk result }
         ensures idle { packets_in self.old.parts.groups.readings + length telegram.packets.items ≡ 0 → OnOk result (SameTrack self.old self.new) }
         ensures stands { OnOk result ((life : Life) (bytes : List ℕ) → StandsForColumns T.stores self.old life → telegram_in bytes ≡ Some telegram
             → StandsForColumns T.stores self.new (grown_so_far life (heard life.entries bytes)
             (with_groups mode life.entries (heard life.entries bytes) nothing_happened))) }
+        ensures none { IfOk result (λ closes. (life : Life) (bytes : List ℕ) → StandsForColumns T.stores self.old life → telegram_in bytes ≡ Some telegram
+            → closes ≡ false → (with_groups mode life.entries (heard life.entries bytes) nothing_happened).groups ≡ []) }
         ensures err { OnErr result (self.new ≡ self.old) }
     {
         let packets = self.parts.groups.packets() + telegram.packets().len() as usize;
         self.make_space(packets)?;
-        self.take(mode, telegram);
-        Ok(())
+        Ok(self.take(mode, telegram))
     }
 
-    // The bytes of a balise. Those that carry no telegram do nothing.
-    fn listen(&mut self, mode: Mode, bytes: &[u8]) -> Result<(), NoMemory>
+    // The bytes of a balise. Those that carry no telegram do nothing. Answers whether a group closes.
+    fn listen(&mut self, mode: Mode, bytes: &[u8]) -> Result<bool, NoMemory>
         ensures quiet { HasSpaceFor T.stores self.old (inputs.Telegram bytes.now) → IsOk result }
         ensures idle { packets_by self.old.parts (inputs.Telegram bytes.now) ≡ 0 → OnOk result (SameTrack self.old self.new) }
         ensures stands { OnOk result ((life : Life) → StandsForColumns T.stores self.old life
             → StandsForColumns T.stores self.new (grown_so_far life (heard life.entries bytes.now)
             (with_groups mode life.entries (heard life.entries bytes.now) nothing_happened))) }
+        ensures none { IfOk result (λ closes. (life : Life) → StandsForColumns T.stores self.old life → closes ≡ false
+            → (with_groups mode life.entries (heard life.entries bytes.now) nothing_happened).groups ≡ []) }
         ensures err { OnErr result (self.new ≡ self.old) }
     {
         match Received::new(bytes) {
             Ok(telegram) => self.read(mode, telegram),
             Err(_) => {
                 self.parts.pass_over();
-                Ok(())
+                Ok(false)
             }
         }
     }
@@ -198,12 +221,14 @@ impl<T: ProfileStores> TracksideOver<T> {
     /// makes its fix, and the packets are used that the mode uses. Space is made first for all that they may add; where
     /// memory is refused for it, nothing changes. Where there is space for them, none is refused. An input that uses no
     /// packet keeps no more track. A moment, and a reading while no group is being read, leave the authority, the areas
-    /// and what is announced.
-    pub fn receive(&mut self, mode: Mode, input: &Input) -> Result<(), NoMemory>
+    /// and what is announced. Answers whether a group closes.
+    pub fn receive(&mut self, mode: Mode, input: &Input) -> Result<bool, NoMemory>
         ensures quiet { HasSpaceFor T.stores self.old input.now → IsOk result }
         ensures idle { packets_by self.old.parts input.now ≡ 0 → OnOk result (size_in T.stores self.new ≡ size_in T.stores self.old) }
         ensures stands { OnOk result ((life : Life) → StandsForLife T.stores self.old life
             → StandsForLife T.stores self.new (grown life (received mode life.entries input.now))) }
+        ensures none { IfOk result (λ closes. (life : Life) → StandsForLife T.stores self.old life → closes ≡ false
+            → (received mode life.entries input.now).used.groups ≡ []) }
         ensures kept { closes_none self.old.parts input.now ≡ true → OnOk result (SameAhead self.old.parts self.new.parts) }
         ensures err { OnErr result (self.new ≡ self.old) }
     {
@@ -212,11 +237,11 @@ impl<T: ProfileStores> TracksideOver<T> {
             Input::Odometer(reading) => self.move_by(mode, reading),
             Input::Clock(moment) => {
                 self.parts.tick(*moment);
-                Ok(())
+                Ok(false)
             }
             Input::Driver(_) => {
                 self.parts.pass_over();
-                Ok(())
+                Ok(false)
             }
         }
     }

@@ -28,8 +28,8 @@ returns-clause-life g c life s =
     let begun = grown life (initial (reported life input) (deed_of life input)) in
     let carried = c.self.inside.carried in
     let train = c.move_on.new.self.still in
-    let began = c.in_ok-begin.ensures.stands life before.supervision_is in
-    let left = λ (closes : c.closes_none-closes_none.result ≡ true). left_begun (c.in_ok-begin.ensures.kept (c.closes_none-closes_none.ensures.idle closes)) in
+    let began = c.in_ok-closes.ensures.stands life before.supervision_is in
+    let left = λ (closes : c.closes_none-closes_none.result ≡ true). left_begun (c.in_ok-closes.ensures.kept (c.closes_none-closes_none.ensures.idle closes)) in
     let there = c.move_on.ensures.train life began (placed _ life carried.still carried.steady before.still_is) in
     let before_end = c.is_some-before_end.ensures ∙ ap (λ (k : Carried). is_some k.steady) c.move_on.ensures.rest in
     let stands_still = subst (λ (b : Bool). IfSome train (λ t. IsStill c.begin.new.self × (t ≡ span_of begun) × (IsTrue b → is_beyond_end begun t ≡ false)))
@@ -40,7 +40,7 @@ returns-clause-life g c life s =
     let new = c.mode.ensures ∙ ap (λ (k : KnownModes). k.mode) supervised.parts_are in
     let ahead : c.is_calm-calm.result ≡ true → IsCarriedAhead carried after = λ calm.
     let is = c.is_calm-calm.ensures calm in
-    stays_ahead life input (c.closes_none-closes_none.ensures.none life before.supervision_is is.0)
+    stays_ahead life input (c.in_ok-closes.ensures.none life before.supervision_is is.0)
     ((λ i. is_mode (sym old i) (sym new i)) ∙ is.1) carried before.carried_is in
     let kept = λ (passed : c.finish-passed.result ≡ true). c.finish-passed.ensures.kept passed in
     let ended = λ (closes : c.closes_none-closes_none.result ≡ true) (passed : c.finish-passed.result ≡ true). left_ended (left closes) (kept passed).1 (kept passed).2 in

@@ -1,6 +1,6 @@
-use Rattle.std.proofs.Common.{◌≡◌, ◌+◌, ◌≤◌, Option, length, refl, sym, subst}
+use Rattle.std.proofs.Common.{◌≡◌, ◌+◌, ◌≤◌, Option, length, refl, sym, ap, subst}
 use Rattle.std.specs.Option.{option_map, option_map_or}
-use Rattle.std.proofs.lemmas.Result.{on_ok_weaker}
+use Rattle.std.proofs.lemmas.Result.{on_ok_weaker, IfOk-weaker}
 use Rattle.telegram.specs.declared.message.Telegram.{Telegram}
 use Rattle.balise_groups.specs.Groups.GroupEntry.{Read}
 use Rattle.balise_groups.specs.PacketCounts.{packets_in}
@@ -43,3 +43,14 @@ returns-in-Err-clause-stands g c life s =
     (λ (o : Option Telegram). StandsForColumns g.T.ProfileStores.stores (record { parts = c.pass_over.new.self; restrictions = c.self.inside.restrictions; gradients = c.self.inside.gradients; speeds = c.self.inside.speeds }) (grown_so_far life (with_telegram life o) (with_groups c.args.mode life.entries (with_telegram life o) nothing_happened)))
     (sym none)
     (record { parts_are = c.pass_over.ensures life before.parts_are; restrictions_are = before.restrictions_are; gradients_are = before.gradients_are; speeds_are = before.speeds_are })
+
+pub returns-in-Ok-clause-none : goal.returns-in-Ok-clause-none
+returns-in-Ok-clause-none g c =
+    IfOk-weaker c.read.result _ _
+    (λ closes taken life s. taken life c.args.bytes.now s (carried_in _ _ ((c.in-Ok.ensures.found _).0 refl)))
+    c.read.ensures.none
+
+pub returns-in-Err-clause-none : goal.returns-in-Err-clause-none
+returns-in-Err-clause-none g c life s _ =
+    let none = refused_none _ _ ((c.in-Err.ensures.fault _).0 refl) in
+    ap (λ (o : Option Telegram). (with_groups c.args.mode life.entries (with_telegram life o) nothing_happened).groups) none

@@ -1,7 +1,7 @@
 use Rattle.std.proofs.Common.{◌≡◌, Bool, is_none, if◌then◌else◌, ap, subst, sym, ◌∙◌, arith}
 use Rattle.balise_groups.specs.PacketCounts.{packets_in}
 use Rattle.track_picture.specs.StandsFor.{Knowledge, SameTrack}
-use Rattle.track_picture.proofs.Moving.{only_moved}
+use Rattle.track_picture.proofs.Moving.{none_left, only_moved}
 use Rattle.track_picture.proofs.Standing.{seen_columns as seen}
 use Rattle.track_picture.proofs.state.TracksideOver.move_by.Goals as goal
 
@@ -11,6 +11,12 @@ returns-then-is_idle-clause-stands g c life s =
     let inside = seen c.self.view_is s in
     let stays = c.go.ensures.idle (sym (c.is_idle.ensures ∙ ap (λ w. is_none w.parts.groups.current) c.self-inside.view_is) ∙ c.if-is_idle.true) in
     only_moved c.args.mode life c.args.reading.now (c.go.ensures.stands life inside.parts_are stays) (c.go.ensures.none life inside.parts_are stays) inside
+
+pub returns-then-is_idle-clause-none : goal.returns-then-is_idle-clause-none
+returns-then-is_idle-clause-none g c life s _ =
+    let inside = seen c.self.view_is s in
+    let stays = c.go.ensures.idle (sym (c.is_idle.ensures ∙ ap (λ w. is_none w.parts.groups.current) c.self-inside.view_is) ∙ c.if-is_idle.true) in
+    none_left c.args.mode life c.args.reading.now (c.go.ensures.none life inside.parts_are stays)
 
 pub returns-clause-idle : goal.returns-clause-idle
 returns-clause-idle g c none =

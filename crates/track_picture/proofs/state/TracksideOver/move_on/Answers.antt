@@ -3,7 +3,7 @@ use Rattle.balise_groups.specs.declared.message.Closed.{Closed}
 use Rattle.track_picture.specs.Columns.{StandsForColumns, moved, after_moving}
 use Rattle.track_picture.specs.Sentences.{with_closed}
 use Rattle.track_picture.specs.StandsFor.{grown_so_far}
-use Rattle.track_picture.proofs.Moving.{moved_only, only_moved}
+use Rattle.track_picture.proofs.Moving.{moved_only, none_left, only_moved}
 use Rattle.track_picture.proofs.Standing.{seen_columns as seen}
 use Rattle.track_picture.proofs.state.TracksideOver.move_on.Goals as goal
 
@@ -23,3 +23,7 @@ returns-else-go-clause-stands g c life s =
     let before = (seen c.self.view_is s).parts_are in
     only_moved c.args.mode life c.args.reading.now (c.go.ensures.stands life before c.if-go.false) (c.go.ensures.none life before c.if-go.false)
     (seen c.self.view_is s)
+
+pub returns-else-go-clause-none : goal.returns-else-go-clause-none
+returns-else-go-clause-none g c life s _ =
+    none_left c.args.mode life c.args.reading.now (c.go.ensures.none life (seen c.self.view_is s).parts_are c.if-go.false)

@@ -1,5 +1,5 @@
-use Rattle.std.proofs.Common.{ℕ, List, sym, subst}
-use Rattle.std.proofs.lemmas.Result.{on_ok_weaker}
+use Rattle.std.proofs.Common.{◌≡◌, ℕ, List, [], sym, subst}
+use Rattle.std.proofs.lemmas.Result.{on_ok_weaker, IfOk-weaker}
 use Rattle.events.specs.declared.input.Input.{Input}
 use Rattle.events.specs.declared.input.Input.TheVariants as inputs
 use Rattle.track_picture.specs.declared.happened.Happened.{Happened}
@@ -62,3 +62,21 @@ returns-in-Driver-clause-stands g c life s =
       gradients_are = before.gradients_are;
       speeds_are = before.speeds_are;
     }))
+
+pub returns-in-Telegram-clause-none : goal.returns-in-Telegram-clause-none
+returns-in-Telegram-clause-none g c =
+    IfOk-weaker c.listen.result _ _
+    (λ closes taken life s is. subst (λ (x : Input). (received c.args.mode life.entries x).used.groups ≡ []) (sym c.in-Telegram.is)
+    (subst (λ (bytes : List ℕ). (received c.args.mode life.entries (inputs.Telegram bytes)).used.groups ≡ []) c.as_slice.ensures.value
+    (taken life (by_columns life s) is)))
+    c.listen.ensures.none
+
+pub returns-in-Odometer-clause-none : goal.returns-in-Odometer-clause-none
+returns-in-Odometer-clause-none g c =
+    let reading = c.in-Odometer.reading in
+    IfOk-weaker c.move_by.result _ _
+    (λ closes taken life s is. subst (λ (x : Input). (received c.args.mode life.entries x).used.groups ≡ []) (sym c.in-Odometer.is)
+    (subst (λ (x : InputEffect × Happened). (with_groups c.args.mode life.entries x.0 x.1).groups ≡ [])
+    (λ i. (sym (same_moved life.entries reading) i, sym (same_happened life.entries reading) i))
+    (taken life (by_columns life s) is)))
+    c.move_by.ensures.none

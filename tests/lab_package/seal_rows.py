@@ -25,7 +25,6 @@ sys.path[:0] = [str(TOP / part) for part in ("python", "tests", "tests/plain", "
 
 from compared import Compared  # noqa: E402
 from gaknifur.evidence import seal  # noqa: E402
-from gaknifur.program import Failed  # noqa: E402
 from replay_rows import examples  # noqa: E402
 
 LISTED = ["image", "image.identity", "journal.db", "report.html", "seal.json", "table.csv"]
@@ -94,7 +93,7 @@ def each_file():
     for name in (SUMS, SIGNATURE, "seal.json", "image.identity"):
         yield f"2^40 bytes for {name}", lambda folder, name=name: os.truncate(folder / name, 1 << 40), *(f"altered: {name}: has more than 65536 bytes",) * 2
     for name in ("more", ".more", "image.times", "SHA512SUMS.asc", "data"):
-        yield f"{name} more", lambda folder, name=name: (folder / name).mkdir(), *(f"altered: {name}: is not a file of a seal",) * 2
+        yield f"{name} more", lambda folder, name=name: os.mkdir(folder / name) if name == "data" else (folder / name).touch(), *(f"altered: {name}: is not a file of a seal",) * 2
     yield "a file more, which SHA512SUMS has", lambda folder: [(folder / "run.sh").touch(), close(folder)], *("altered: run.sh: is not a file of a seal",) * 2
     yield "two files in place of each other", lambda folder: [(folder / "image").rename(folder / "x"), (folder / "table.csv").rename(folder / "image"),
                                                              (folder / "x").rename(folder / "table.csv")], *("table.csv: FAILED",) * 2
@@ -122,7 +121,6 @@ def closed_again():
     for name in ("table.csv", "report.html", "journal.db"):
         yield f"no emergency in {name}", lambda folder, name=name: calm(folder, name), f"altered: {name}: is not what lab makes"
         yield f"no {name}", lambda folder, name=name: (folder / name).unlink(), f"altered: {name}: is missing"
-    yield "another image", lambda folder: flip(folder, "image", 0.1), "altered: image: is another image"
     for text in ("unit: 18", "driver: me"):
         yield f"another identity, {text}", lambda folder, text=text: (folder / "image.identity").write_text(text), "altered: report.html: is not what lab makes"
     for text in (b"", b"{", b"[]", b"null", b"\xff\xfe", b"[" * 60_000, b'{"a":' * 10_000, b"1" * 5_000):
@@ -132,8 +130,9 @@ def closed_again():
                            "image.more": (1,), "tools": (None, {}, ...), "tools.lab": (5,), "tools.more": (1,), "etcs_lab_is_proved": ("yes", 1, ...), "more": (1,)}.items():
         for value in values:
             yield f"{member} is {str(value)[:40]!r}", lambda folder, member=member, value=value: put(folder, member, value), "altered: seal.json: "
-    yield "another size", lambda folder: put(folder, "image.bytes", 5), "altered: image: is another image"
-    yield "another digest", lambda folder: put(folder, "image.sha256", "0" * 64), "altered: image: is another image"
+    for name, step in (("image", lambda folder: flip(folder, "image", 0.1)), ("size", lambda folder: put(folder, "image.bytes", 5)),
+                       ("digest", lambda folder: put(folder, "image.sha256", "0" * 64))):
+        yield f"another {name}", step, "altered: image: is another image"
 
 
 def altered(*steps):
@@ -163,10 +162,9 @@ def all_altered(count):
         expect(count, name, [step], line)
         expect(count, f"{name}, signers named", [step], "unsigned: ", "signers")
     table = partial(calm, name="table.csv")
-    expect(count, "signed by others", [lambda folder: close(folder, "other")], "unsigned: ", "signers")
-    expect(count, "a table, signed by others", [table, lambda folder: close(folder, "other")], "unsigned: ", "signers")
-    expect(count, "a table, signed again", [table, lambda folder: close(folder, "key")], "altered: table.csv: is not what lab makes", "signers")
-    expect(count, "no signature", [lambda folder: (folder / SIGNATURE).unlink()], "unsigned: ", "signers")
+    for name, step, line in (("signed by others", lambda folder: close(folder, "other"), "unsigned: "), ("no signature", lambda folder: (folder / SIGNATURE).unlink(), "unsigned: "),
+                             ("a table, signed again", lambda folder: [table(folder), close(folder, "key")], "altered: table.csv: is not what lab makes")):
+        expect(count, name, [step], line, "signers")
     found = run(TOP / "lab", "verify", altered(table, lambda folder: put(folder, "tools.lab", "0.0.1\u202e"), close))
     count.same("a table of another version", ("not shown: that table.csv is about the image" in found, "with lab 0.0.1\\u202e;" in found,
                                               found.splitlines()[-1]), (True, True, "the seal is verified"))

@@ -6,7 +6,6 @@ A seal shows that nothing changed since it was made. It shows nothing about the 
 import datetime
 import filecmp
 import getpass
-import hashlib
 import json
 import os
 import platform
@@ -41,8 +40,6 @@ LINE = re.compile(rf"[0-9a-f]{{128}}  ({'|'.join(map(re.escape, sorted(FILES)))}
 """A line of SHA512SUMS."""
 NAMESPACE = "gaknifur-seal"
 """The namespace of the signature."""
-VERSION = 3
-"""The version of `seal.json`."""
 
 
 def who() -> str:
@@ -53,16 +50,10 @@ def who() -> str:
         return f"user {os.getuid()} at {platform.node()}"
 
 
-def digest(path: Path) -> str:
-    """The SHA-256 of a file."""
-    with path.open("rb") as file:
-        return hashlib.file_digest(file, "sha256").hexdigest()
-
-
 def tools() -> Json:
     """What the bytes of table, database and report depend on, besides the image."""
     libraries = [f"{name} {metadata.version(name)}" for name in ("jinja2", "matplotlib", "numpy", "pandas")]
-    return {"lab": program.version(), "etcs_lab_sha256": digest(Path(program.find())), "python": platform.python_version(),
+    return {"lab": program.version(), "etcs_lab_sha256": files.digest(Path(program.find())), "python": platform.python_version(),
             "libraries": ", ".join([*libraries, f"sqlite {sqlite3.sqlite_version}"])}
 
 
@@ -137,8 +128,8 @@ def seal(image: Path, folder: Path, by: str | None = None, medium: str | None = 
         name = shown(image.name)
         judged = draw(new / IMAGE, new, name, progress)
         now = datetime.datetime.now(datetime.timezone.utc).isoformat(timespec="seconds").replace("+00:00", "Z")
-        found = {"version": VERSION, "sealed_at": now, "by": shown(by or who()), "medium": shown(medium) if medium else None,
-                 "image": {"name": name, "bytes": (new / IMAGE).stat().st_size, "sha256": digest(new / IMAGE)},
+        found = {"version": 3, "sealed_at": now, "by": shown(by or who()), "medium": shown(medium) if medium else None,
+                 "image": {"name": name, "bytes": (new / IMAGE).stat().st_size, "sha256": files.digest(new / IMAGE)},
                  "tools": tools(), "etcs_lab_is_proved": program.reader_is_proved()}
         if fault := fault_of(found):
             raise Failed(f"{image}: can't be sealed: in {SEAL} {fault}. Nothing was sealed.", REFUSED)
@@ -260,7 +251,7 @@ def check_contents(found: Verification) -> None:
         found.refuse(f"altered: {SEAL}: {fault}")
         return
     image, is_same_tool = found.folder / IMAGE, seal["tools"] == tools()
-    if (seal["image"]["bytes"], seal["image"]["sha256"]) != (image.stat().st_size, digest(image)):
+    if (seal["image"]["bytes"], seal["image"]["sha256"]) != (image.stat().st_size, files.digest(image)):
         found.refuse(f"altered: {IMAGE}: is another image than the one in {SEAL}")
     found.lines.append(f"stated: sealed by {seal['by']} at {seal['sealed_at']}, from {seal['medium'] or 'a medium that is not named'}, "
                        f"with lab {seal['tools']['lab']}; {program.PROOF[seal['etcs_lab_is_proved']]}")

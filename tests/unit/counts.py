@@ -1,4 +1,4 @@
-"""Instructions of calls of the unit from C, counted by callgrind: rows compared with kept ones, and readings before long tracks with their bounds.
+"""Instructions of calls of the unit from C, counted by callgrind: rows compared with kept ones; long tracks and a great group with their bounds.
 
     counts.py PROGRAM           PROGRAM is counts.c with the library
     counts.py PROGRAM --keep    write the counts of the rows to tests/unit/counts.txt
@@ -27,6 +27,8 @@ MODES = {0: "FS", 2: "SR", 6: "SB"}
 # announced from the farthest to the nearest, or by turns; before 40 of which each slower one is nearer; before stairs of restrictions, mode areas and
 # static speeds whose authority ends before them: one sum over the gradients. A reading each of whose two sums begins anew.
 MOST_TWICE, MOST_READING, MOST_ANEW = 140_000, 45_000, 72_000
+# A telegram that ends a group of 239 packets, for which no list has capacity yet: what moves are the elements.
+MOST_GROWN = 90_000
 # A reading with twice the restrictions, or twice the gradients, takes at most twice as much, and a little for the call itself.
 MOST_DOUBLED = 2.05
 
@@ -93,6 +95,7 @@ def by_turns(many, restricted):
 
 
 STAIRS = [(1380 + 5 * at, at) for at in range(1, 41)]
+GROWN = ["telegram " + written(f"N_PIG {at}, N_TOTAL 7, NID_BG 900" + "; 200" * (30 if at else 29)) for at in range(8)]
 ANEW = (*restrictions([(1410, 20), (1400, 10)]), speeds((0, 120), (1420, 30), (1430, 127)))
 TWICE = started("20000 600000 50 6226 15", f"{authority(1_885, 1, 0)}; {speeds((0, 120), (4_374, 23), (4_375, 127), scale=0)}",
                 *gradients([(0, 92), *((1_133 + at, 22 - at % 2) for at in range(690)), (1_823, 92)], 0), *restrictions([(4_983, 0), (4_331, 40)], 0, 10))
@@ -157,10 +160,10 @@ def main(program, *words):
             "a reading before 40 restrictions, each slower one nearer": before(690, *restrictions(STAIRS), train=FAST),
             "a reading before stairs of each kind, the authority's end before them": before(690, *mixed, train=FAST, end=(1_381,)),
             "a reading each of whose sums begins anew": before(690, *ANEW, train=FAST, end=(1_381, 9)),
-            "twice the restrictions": stops(690, 64), "twice the gradients": stops(1380, 32)}
+            "a group for which the lists grow": CALM + GROWN, "twice the restrictions": stops(690, 64), "twice the gradients": stops(1380, 32)}
     took = dict(zip(long, counted(program, [(16, "FS", lines) for lines in long.values()])))
     doubled = MOST_DOUBLED * took["a reading before 690 gradients and 32 restrictions"]
-    most = dict(zip(long, (MOST_TWICE, MOST_TWICE, MOST_READING, MOST_READING, MOST_READING, MOST_READING, MOST_ANEW, doubled, doubled)))
+    most = dict(zip(long, (MOST_TWICE, MOST_TWICE, MOST_READING, MOST_READING, MOST_READING, MOST_READING, MOST_ANEW, MOST_GROWN, doubled, doubled)))
     faults += [f"{what}: {number} instructions, and {most[what]:.0f} are its bound" for what, number in took.items() if number > most[what]]
     for fault in faults:
         print(fault)

@@ -7,6 +7,7 @@ mod fact;
 mod fact_store;
 mod knowing;
 mod profile;
+mod reserving;
 mod restrictions;
 mod same;
 mod segment_store;

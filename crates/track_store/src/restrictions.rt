@@ -7,6 +7,7 @@ ghost use Rattle.track_store.specs.Restrictions.RestrictionEntry.{Restricted, Re
 
 mod walk;
 
+use crate::reserving::reserve;
 use restriction::Restriction;
 use std::alloc::Global;
 use std::marker::Model;
@@ -61,7 +62,7 @@ impl Restrictions {
         ensures err { OnErr result (self.new ≡ self.old) }
     {
         let space = restrictions.max(self.space);
-        self.items.reserve(space)?;
+        reserve(&mut self.items, space)?;
         self.space = space;
         Ok(())
     }

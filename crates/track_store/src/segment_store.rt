@@ -2,6 +2,7 @@
 ghost use Rattle.std.specs.Prelude.{◌≡◌, ℤ, Option};
 ghost use Rattle.track_store.specs.Segments.{IsKept, count_of};
 
+use crate::reserving::reserve;
 use crate::segments::{
     Segment, all_known, drop_below, hold_steps, next_start, piece_at, piece_up_to, value_at,
 };
@@ -118,7 +119,7 @@ impl<T: Copy + Same> ProfileStore<T> for SegmentStore<T> {
         let Some(segments) = space.checked_mul(MOST_SEGMENTS) else {
             return Err(NoMemory);
         };
-        self.segments.reserve(segments)?;
+        reserve(&mut self.segments, segments)?;
         self.space = space;
         Ok(())
     }

@@ -10,8 +10,7 @@ from gaknifur.testing import coverage
 from tracing.sources import Place
 
 NAME = re.compile(r"`([^`]+)`")
-ITEM = re.compile(r"^(\d+)\. \*\*(.+?)\*\*(.*?)(?=^\d+\. \*\*|^## |\Z)", re.M | re.S)
-DEFINED = re.compile(r"((?:`\w+`(?:, | and )?)+)\s+in\s+`crates/(\w+)/specs/([\w/]+)\.antt`")
+ITEM = re.compile(r"^(\d+)\. \*\*(.+?)\*\*", re.M | re.S)
 VARIANT = re.compile(r"^ {4}([A-Z]\w*)(?: = (\d+))?,", re.M)
 STATUS = re.compile(r"^ {4}ETCS_(?:UNIT|FILE)_(\w+) = (\d+),?", re.M)
 
@@ -63,18 +62,10 @@ def blocks(path, heading):
 
 
 def items():
-    """The items of SAFETY by number, with the definitions that each names."""
-    path, found = "docs/explain/safety.md", {}
+    """The items of SAFETY by number."""
+    path = "docs/explain/safety.md"
     text = read(path)
-    for one in ITEM.finditer(text):
-        body = " ".join(one[3].split())
-        defined = [
-            (f"{crate}.{file.replace('/', '.')}", name)
-            for names, crate, file in DEFINED.findall(body)
-            for name in NAME.findall(names)
-        ]
-        found[int(one[1])] = (Sentence(one[1], plain(one[2]).rstrip("."), Place(path, line_of(text, one.start()))), defined)
-    return found
+    return {int(one[1]): Sentence(one[1], plain(one[2]).rstrip("."), Place(path, line_of(text, one.start()))) for one in ITEM.finditer(text)}
 
 
 def refusals():

@@ -110,11 +110,10 @@ class Reader:
         """The texts of a list."""
         return [one.text() for one in at.elements()]
 
-    def hold(self, it, members, defined=()):
+    def hold(self, it, members):
         """Adds a requirement with what holds it: something that is proved or defined, and something that is run, or a reason."""
         it.held = {name: list(read(members[name])) if name in members else [] for name, read in self.readers.items()}
         held = it.held
-        held["defined"] += defined
         self.requirements.append(it)
         at, why = next(iter(members.values())), dict(held["why_none"])
         is_proved, is_tried = held["defined"] or held["clauses"] or held["laws"] or held["rests_on"], held["rows"] or it.cases
@@ -208,18 +207,16 @@ class Reader:
     def read_safety(self, at):
         """Reads the items of SAFETY, and compares them with the page in both directions."""
         items, named = {f"S-{number}": one for number, one in pages.items().items()}, at.entries()
-        self.faults += [f"{said.place}: item {name[2:]} has no requirement: add {name} to {PAGE}" for name, (said, _) in items.items() if name not in named]
+        self.faults += [f"{said.place}: item {name[2:]} has no requirement: add {name} to {PAGE}" for name, said in items.items() if name not in named]
         for identity, one in named.items():
             members = one.members(("by",), HELD)
             if identity not in items:
                 self.fault(one, f"{SAFETY} has no item {identity[2:]}: take {identity} out")
                 continue
-            said, defined = items[identity]
-            gone = [(page, name) for page, name in defined if page not in self.sources.pages or name not in self.sources.pages[page].definitions]
-            self.faults += [f"{said.place}: item {identity[2:]} names `{name}` of {page}, which isn't there: mend the page" for page, name in gone]
+            said = items[identity]
             it = Requirement(identity, "safety", said.text, "own", said.place, by=members["by"].text())
             it.cases = [case for case in self.sources.cases if identity[2:] in case.shows]
-            self.hold(it, members, [one for one in defined if one not in gone])
+            self.hold(it, members)
 
     def read_refusals(self, at):
         """Reads the refusals: page and source have the same names and numbers, and each type has what holds it."""

@@ -11,6 +11,7 @@ import contextlib
 import json
 import os
 import subprocess
+import tempfile
 import threading
 from collections.abc import Generator, Iterable, Mapping
 from pathlib import Path
@@ -78,7 +79,7 @@ def played(lines: Iterable[bytes], slots: int, outputs: Which, images: Path | No
     """The result of each input line."""
     words = [program.find(), "play", f"--slots={slots}", f"--outputs={outputs}", *([] if images is None else [f"--images={images}"])]
     count = 0
-    with program.message_file() as errors:
+    with tempfile.TemporaryFile() as errors:
         with program.naming(words[0]):
             process = subprocess.Popen(words, stdin=subprocess.PIPE, stdout=subprocess.PIPE, stderr=errors)
         assert process.stdin is not None and process.stdout is not None

@@ -14,7 +14,6 @@ import tempfile
 from collections.abc import Generator, Iterator, Sequence
 from dataclasses import dataclass
 from pathlib import Path
-from typing import IO
 
 from .journal import layout
 
@@ -22,9 +21,8 @@ WHOLE, REFUSED, WRONG_WORDS, DEVICE, NOT_WHOLE = range(5)
 FOUND = NOT_WHOLE
 """The exit statuses, which mean the same in each program (docs/reference/refusals.md, Exit statuses). 4 is a finding, in an image or elsewhere."""
 PROCESSORS = os.cpu_count() or 1
-MEMORY, MANY, MOST_COPIED = Path("/dev/shm"), 64, 256
-"""The folder that Linux keeps in memory; how many images have to fit into it before it is used for one; and the greatest number
-of slots of an image that is copied."""
+MEMORY, MANY = Path("/dev/shm"), 64
+"""The folder that Linux keeps in memory, and how many images have to fit into it before it is used for one."""
 
 
 class Failed(Exception):
@@ -166,11 +164,6 @@ def ran(words: Sequence[str]) -> subprocess.CompletedProcess[bytes]:
         return subprocess.run(words, stdin=subprocess.DEVNULL, capture_output=True)
 
 
-def message_file() -> IO[bytes]:
-    """A file for what a program says on standard error: in memory, since a full disk may be what it says. (Only Linux has such files.)"""
-    return os.fdopen(os.memfd_create("errors"), "w+b") if hasattr(os, "memfd_create") else tempfile.TemporaryFile()
-
-
 class Run:
     """A run of `etcs_lab` on an image: its lines as they are printed, and then its status and its messages."""
 
@@ -225,31 +218,10 @@ def etcs(*words: str) -> tuple[int, list[str]]:
 
 
 def format_image(image: Path, slots: int) -> None:
-    """Makes an empty image, as `etcs format` does. A small one is made once, and copied from then on."""
-    if slots > MOST_COPIED:
-        formatted(image, slots)
-    else:
-        filled, size = empty_image(find("etcs"), slots)
-        with image.open("wb") as file:
-            file.write(filled)
-            file.truncate(size)
-
-
-def formatted(image: Path, slots: int) -> None:
-    """Runs `etcs format`."""
+    """Makes an empty image by `etcs format`."""
     status, printed = etcs("format", "--", str(image), str(slots))
     if status:
         raise Failed(f"etcs format: {' '.join(printed)}", REFUSED)
-
-
-@functools.lru_cache(maxsize=16)
-def empty_image(program: str, slots: int) -> tuple[bytes, int]:
-    """The bytes of an empty image, as this program `etcs` makes it, without the zeros at its end, and its size with them."""
-    with tempfile.TemporaryDirectory(prefix="gaknifur-") as folder:
-        image = Path(folder) / "image"
-        formatted(image, slots)
-        data = image.read_bytes()
-        return data.rstrip(b"\0"), len(data)
 
 
 def temporary_folder(slots: int) -> tempfile.TemporaryDirectory[str]:
@@ -262,23 +234,10 @@ def temporary_folder(slots: int) -> tempfile.TemporaryDirectory[str]:
     return tempfile.TemporaryDirectory(prefix="gaknifur-")
 
 
-MOST_DECODED = 4096
-decoded: dict[str, list[str]] = {}
-"""The lines of telegrams that were decoded before."""
-
-
-def keep_decoded(digits: str, lines: list[str]) -> None:
-    """Keeps what `etcs decode` prints of a telegram."""
-    if len(decoded) >= MOST_DECODED:
-        decoded.clear()
-    decoded[digits] = lines
-
-
+@functools.lru_cache(maxsize=4096)
 def decode(digits: str) -> list[str]:
     """What `etcs decode` prints of a telegram."""
-    if digits not in decoded:
-        lines = etcs("decode", "--", digits)[1]
-        if not lines:
-            raise Failed("etcs decode printed nothing", REFUSED)
-        keep_decoded(digits, lines)
-    return decoded[digits]
+    lines = etcs("decode", "--", digits)[1]
+    if not lines:
+        raise Failed("etcs decode printed nothing", REFUSED)
+    return lines

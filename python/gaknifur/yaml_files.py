@@ -176,21 +176,6 @@ class Value:
             if isinstance(node, yaml.MappingNode):
                 left += [(value, key.value in names) for key, value in node.value if isinstance(key, yaml.ScalarNode)]
 
-    def texts(self) -> Iterator[str]:
-        """The texts of all scalars but keys, one for each node."""
-        left, seen = [self.node], set[int]()
-        while left:
-            node = left.pop()
-            if id(node) in seen:
-                continue
-            seen.add(id(node))
-            if isinstance(node, yaml.ScalarNode):
-                yield str(node.value)
-            elif isinstance(node, yaml.SequenceNode):
-                left += node.value
-            else:
-                left += [value for _, value in node.value]
-
     def entries(self) -> dict[str, "Value"]:
         """The names of a mapping, with their values."""
         if not isinstance(self.node, yaml.MappingNode):

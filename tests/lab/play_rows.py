@@ -30,7 +30,7 @@ from random_lists import Numbers  # noqa: E402
 from run_rows import Played, RunRows, lived, placed, wanted_of  # noqa: E402
 
 SCENARIOS, SEED, LEAST_OUTPUTS = 400, 7, 5_000
-LISTS, MOST_LIVES, LEAST_LATER, LEAST_DECODED = 60, 4, 100, 30
+LISTS, MOST_LIVES, LEAST_LATER = 60, 4, 100
 OUTPUT = ("event", "mode", "level", "brake", "limit_m_per_h", "indications")
 SLOTS = (2, 3, 16, 64)
 LONGEST = 16_777_216
@@ -398,26 +398,6 @@ class Plays(Compared):
             except (Failed, ValueError) as error:
                 self.same(f"python, {name}", f"{type(error).__name__}: {error}", wanted)
 
-    def decoded(self):
-        """Telegrams that the package decodes together, as `etcs decode` prints each of them: those of the examples, whole, cut off and altered."""
-        from gaknifur import program
-        from gaknifur.testing import decoding
-        chance, digits = random.Random(SEED), set()
-        for path in sorted((TOP / "examples").glob("*/*.json")):
-            digits |= set(re.findall('"([0-9A-F]{8,})"', path.read_text()))
-        for one in sorted(digits):
-            for _ in range(6):
-                data = bytearray.fromhex(one)
-                data[chance.randrange(len(data))] ^= 1 << chance.randrange(8)
-                digits |= {data.hex().upper(), one[:2 * chance.randrange(1, len(one) // 2)]}
-        found = decoding.together(sorted(digits))
-        self.unless(len(found) == len(digits) >= LEAST_DECODED, f"{len(found)} of {len(digits)} telegrams are decoded")
-        os.environ["GAKNIFUR_ETCS"] = str(self.etcs)
-        for one, lines in found:
-            self.same(f"decoded, {one}", lines, program.etcs("decode", "--", one)[1])
-            self.met["refused telegrams"] += lines[0].startswith("refused")
-        self.unless(self.met["refused telegrams"], "no telegram is refused")
-
     def judged(self):
         cases = list(self.cases())
         for which in ("all", "last", "changes", "none"):
@@ -428,7 +408,6 @@ class Plays(Compared):
         self.faults()
         self.several()
         self.unread()
-        self.decoded()
         for word in ("done", "stopped", "trips", "service_brakes", "emergency_brakes"):
             self.unless(self.met[word], f"no scenario has {word}")
         self.unless(self.met["later"] >= LEAST_LATER, f"{self.met['later']} later lives are too few")

@@ -11,8 +11,3 @@ FORMULA = ("=", "+", "-", "@", "\t", "\r", "'")
 def guarded(value: Any) -> Any:
     """A value as a cell."""
     return f"'{value}" if isinstance(value, str) and value.startswith(FORMULA) else value
-
-
-def unguarded(cell: str) -> str:
-    """The text of a cell."""
-    return cell.removeprefix("'")

@@ -326,9 +326,8 @@ def guarded_table(table: pd.DataFrame) -> pd.DataFrame:
 
 def csv_parts(table: pd.DataFrame) -> Iterator[str]:
     """The table as CSV, AT_ONCE rows at a time; unknown values are empty."""
-    output = written(table)
-    for at in range(0, max(len(output), 1), AT_ONCE):
-        yield guarded_table(output.iloc[at:at + AT_ONCE]).to_csv(index=False, header=at == 0, lineterminator="\n")
+    for at in range(0, max(len(table), 1), AT_ONCE):
+        yield guarded_table(written(table.iloc[at:at + AT_ONCE])).to_csv(index=False, header=at == 0, lineterminator="\n")
 
 
 def csv_text(table: pd.DataFrame) -> str:

@@ -15,7 +15,7 @@ from ..journal.wording import INDICATIONS, MODES
 from ..program import REFUSED, AllFailed, Failed
 from ..simulation import drives
 from ..yaml_files import Value, documents, shortened
-from . import decoding, scenarios
+from . import scenarios
 from .mode_table import mode_table, row_name
 
 KINDS = ("powerup", "telegram", "odometer", "clock", "driver")
@@ -339,7 +339,6 @@ def read(path: Path) -> list[Case]:
     """The cases of a file. Refuses it with the first fault of each document."""
     known: dict[Path, scenarios.Shared] = {}
     read_documents = documents(path)
-    decoding.decode_ahead(read_documents)
     found: list[Case] = []
     faults: list[Failed] = []
     for document in read_documents:

@@ -13,7 +13,7 @@ from typing import Any
 
 from .. import program
 from ..yaml_files import MOST_DIGITS, MOST_SHOWN, Value, document, guess, shortened
-from . import decoding, telegrams
+from . import telegrams
 
 COLD = {"unknown": 0, "moved": 1, "not_moved": 2}
 CONFIRMED = {"identity": 1, "running_number": 2, "train_data": 3, "level": 4}
@@ -110,7 +110,6 @@ def shared_of(members: dict[str, Value], path: Path, within: tuple[Path, ...] = 
             if len(within) == DEPTH:
                 raise name.fault(f"files include one another more than {DEPTH} deep")
             if other not in read_before:
-                decoding.decode_ahead([document(other)])
                 included = document(other).members((), SHARED)
                 read_before[other] = shared_of(included, other, (*within, path.resolve()), read_before)
             inner = read_before[other]
@@ -361,7 +360,6 @@ def build(members: dict[str, Value], shared: Shared) -> Scenario:
 def read(path: Path) -> Scenario:
     """The scenario of a YAML file."""
     at = document(path)
-    decoding.decode_ahead([at])
     members = at.members(("steps",), (*LIFE, "drive", *SHARED))
     if "drive" in members:
         raise members["drive"].fault("the inputs of a drive in a closed loop are known only after it; use lab drive --scenario")

@@ -1,5 +1,6 @@
 """Make the report of one journal: one HTML file without scripts that loads nothing from the network, and reads the same on paper."""
 import functools
+import itertools
 from collections.abc import Iterator
 from dataclasses import dataclass, field
 from typing import Any
@@ -228,8 +229,8 @@ def pictures_of(table: pd.DataFrame, drawn: list[Life], chosen: pd.DataFrame, ro
 
 def braking_of(journal: Journal, table: pd.DataFrame) -> Json:
     """Whether the train braked after each command that begins in a part of a journal, with charts."""
-    events = set(table["event"])
-    measured = [one for one in braking.measures(journal.records, journal.train, journal.lead) if one.command.first_event in events]
+    found = list(braking.measures(journal.records, journal.train, journal.lead))
+    measured = list(itertools.compress(found, np.isin([one.command.first_event for one in found], table["event"])))
     rows = [braking.row(one) for one in measured]
     drawn = braking_charts.chosen(rows)
     return {"rows": [row for row in rows if braking_charts.is_seen(row)][:MOST_LISTED], "all": len(rows),

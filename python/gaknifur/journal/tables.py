@@ -198,11 +198,11 @@ def frame(journal: Journal) -> pd.DataFrame:
     found["speed_m_per_h"] = held_speed(found["kind"], found["reading_m_per_h"], found["stretch"])
     found["speed_kmh"] = found["speed_m_per_h"].astype("Float64") / 1000
     found["over_limit_kmh"] = (found["speed_m_per_h"] - found["limit_m_per_h"]).astype("Float64") / 1000
-    by_cause = cause_columns(journal, zip(found["event"].tolist(), found["kind"], found["brake"], found["source"]))
+    by_cause = cause_columns(journal, zip(map(int, found["event"]), found["kind"], found["brake"], found["source"]))
     if not any(found["source"]):
         del found["source"]
     columns: dict[str, Any] = {name: found.pop(name) for name in ORDER if name in found}
-    columns |= by_cause | {"utc_stated": [utc.at(journal.utc, one["life"], one["time_ms"]) for one in journal.records]}
+    columns |= by_cause | {"utc_stated": [utc.at(journal.utc, int(life), int(time_ms)) for life, time_ms in zip(columns["life"], columns["time_ms"])]}
     table = pd.DataFrame(columns, copy=False)  # (each column was made for it)
     table.insert(table.columns.get_loc("action") + 1, "refused", refused_actions.refused(table))
     return table

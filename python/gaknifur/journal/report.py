@@ -229,14 +229,15 @@ def pictures_of(table: pd.DataFrame, drawn: list[Life], chosen: pd.DataFrame, ro
 
 def braking_of(journal: Journal, table: pd.DataFrame) -> Json:
     """Whether the train braked after each command that begins in a part of a journal, with charts."""
-    found = list(braking.measures(journal.records, journal.train, journal.lead))
-    measured = list(itertools.compress(found, np.isin([one.command.first_event for one in found], table["event"])))
-    rows = [braking.row(one) for one in measured]
+    found = list(braking.rows(journal.records, journal.train, journal.lead))
+    rows = list(itertools.compress(found, np.isin([one["first_event"] for one in found], table["event"])))
     drawn = braking_charts.chosen(rows)
+    titles = {row["first_event"]: f"Event {row['first_event']}: {row['brake']} brake, {braking.ANSWERS[row['answer']]}" for row in rows if row["first_event"] in drawn}
+    # (the readings of all commands may be those of the whole journal, so they are not kept from the first pass)
+    measured = braking.measures(journal.records, journal.train, journal.lead) if titles else ()
     return {"rows": [row for row in rows if braking_charts.is_seen(row)][:MOST_LISTED], "all": len(rows),
             "seen": sum(map(braking_charts.is_seen, rows)),
-            "pictures": [braking_charts.draw(one, f"Event {row['first_event']}: {row['brake']} brake, {braking.ANSWERS[row['answer']]}")
-                         for one, row in zip(measured, rows) if row["first_event"] in drawn]}
+            "pictures": [braking_charts.draw(one, titles[one.command.first_event]) for one in measured if one.command.first_event in titles]}
 
 
 def extent_of(records: pd.DataFrame) -> str:

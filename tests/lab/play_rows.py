@@ -38,13 +38,16 @@ CLOCK = '{"groups":[],"steps":[{"clock":1000}]}'
 MEMBERS = "an object of scenario, and perhaps id, cold, slots and sha256"
 LIST = "a scenario, or a list of scenarios"
 
+NOT_JSON = {"id": None, "pointer": "", "fault": 1, "name": "NotJson", "wanted": "a JSON object on one line"}
+
 # By hand: a line, and what is printed for it along with its number.
 FAULTS = (
-    ("{", {"id": None, "pointer": "", "fault": 1, "name": "NotJson", "wanted": "a JSON object on one line"}),
+    ("{", NOT_JSON),
     ("[]", {"id": None, "pointer": "", "fault": 2, "name": "Shape", "wanted": MEMBERS}),
     (CLOCK, {"id": None, "pointer": "", "fault": 2, "name": "Shape", "wanted": MEMBERS}),
     ('{"id":"a","scenario":%s,"more":1}' % CLOCK, {"id": "a", "pointer": "", "fault": 2, "name": "Shape", "wanted": MEMBERS}),
-    ('{"scenario":%s,"scenario":{}}' % CLOCK, {"id": None, "pointer": "", "fault": 2, "name": "Shape", "wanted": MEMBERS}),
+    *(('{"scenario":%s,%s}' % (CLOCK, twice), {"id": None, "pointer": "", "fault": 2, "name": "Shape", "wanted": MEMBERS})
+      for twice in ('"scenario":{}', '"scenario":null', '"scenario":%s' % CLOCK, r'"\u0073cenario":%s' % CLOCK, '"cold":0,"cold":0')),
     ('{"id":[],"scenario":%s}' % CLOCK, {"id": None, "pointer": "/id", "fault": 2, "name": "Shape", "wanted": "a text or a whole number"}),
     ('{"id":1.5,"scenario":%s}' % CLOCK, {"id": None, "pointer": "/id", "fault": 2, "name": "Shape", "wanted": "a text or a whole number"}),
     ('{"id":2,"cold":3,"scenario":%s}' % CLOCK, {"id": 2, "pointer": "/cold", "fault": 3, "name": "OutOfRange", "wanted": "a whole number, 0 to 2"}),
@@ -53,15 +56,17 @@ FAULTS = (
     ('{"sha256":1,"scenario":%s}' % CLOCK, {"id": None, "pointer": "/sha256", "fault": 2, "name": "Shape", "wanted": "true or false"}),
     ('{"scenario":{"groups":[],"steps":[{"clock":1},{"clock":-1}]}}', {"id": None, "pointer": "/scenario/steps/1/clock", "fault": 3, "name": "OutOfRange"}),
     ('{"scenario":{"groups":[],"steps":[{"telegram":"9"}]}}', {"id": None, "pointer": "/scenario/steps/0/telegram", "fault": 4, "name": "BadHex"}),
-    ('{"scenario":{"groups":[],"steps":[}}}', {"id": None, "pointer": "/scenario", "fault": 1, "name": "NotJson"}),
-    ('{"scenario":{"groups":[],"steps":[]}}}', {"id": None, "pointer": "", "fault": 1, "name": "NotJson", "wanted": "a JSON object on one line"}),
-    ('{"scenario":%s,"id":}' % CLOCK, {"id": None, "pointer": "", "fault": 1, "name": "NotJson", "wanted": "a JSON object on one line"}),
-    ('{"scenario":{"groups":[],"steps":[1 2]}}', {"id": None, "pointer": "/scenario", "fault": 1, "name": "NotJson"}),
+    ('{"scenario":{"groups":[],"steps":[}}}', NOT_JSON),
+    ('{"scenario":{"groups":[],"steps":[]}}}', NOT_JSON),
+    ('{"scenario":%s,"id":}' % CLOCK, NOT_JSON),
+    ('{"scenario":{"groups":[],"steps":[1 2]}}', NOT_JSON),
     ('{"scenario":7}', {"id": None, "pointer": "/scenario", "fault": 2, "name": "Shape"}),
+    (r'{"\u0073cenario":7}', {"id": None, "pointer": "/scenario", "fault": 2, "name": "Shape"}),
+    ('{"scenario":null}', {"id": None, "pointer": "/scenario", "fault": 2, "name": "Shape"}),
     ('{"scenario":[]}', {"id": None, "pointer": "/scenario", "fault": 2, "name": "Shape", "wanted": LIST}),
-    ('{"scenario":[%s}' % CLOCK, {"id": None, "pointer": "", "fault": 1, "name": "NotJson", "wanted": "a JSON object on one line"}),
-    ('{"id":3,"scenario":[%s] 7}' % CLOCK, {"id": 3, "pointer": "/scenario", "fault": 1, "name": "NotJson", "wanted": LIST}),
-    ('{"id":4,"scenario":[%s,]}' % CLOCK, {"id": 4, "pointer": "/scenario/1", "fault": 1, "name": "NotJson"}),
+    ('{"scenario":[%s}' % CLOCK, NOT_JSON),
+    ('{"id":3,"scenario":[%s] 7}' % CLOCK, NOT_JSON),
+    ('{"id":4,"scenario":[%s,]}' % CLOCK, NOT_JSON),
     ('{"scenario":[%s,{"groups":[],"steps":[{"clock":-1}]}]}' % CLOCK, {"id": None, "pointer": "/scenario/1/steps/0/clock", "fault": 3, "name": "OutOfRange"}),
     ('{"scenario":[%s,[%s]]}' % (CLOCK, CLOCK), {"id": None, "pointer": "/scenario/1", "fault": 2, "name": "Shape"}),
 )
@@ -300,9 +305,10 @@ class Plays(Compared):
             self.same_json(line, one, all_of if "wanted" in wanted else all_of | {"wanted": one.get("wanted")})
             self.unless(after["status"] == "done" and after["line"] == 2 * number + 2, f"after {line}: {after}")
         path = self.folder / "faulty.json"
-        path.write_text('{"groups":[],"steps":[{"clock":-1}]}')
-        (one,), status, _ = self.play(None, path)
-        self.same("a file with a fault", (one["pointer"], one["name"], status), ("/steps/0/clock", "OutOfRange", 1))
+        for text, wanted in (('{"groups":[],"steps":[{"clock":-1}]}', ("/steps/0/clock", "OutOfRange")), ("[%s" % CLOCK, ("", "NotJson")), ("[]", ("", "Shape"))):
+            path.write_text(text)
+            (one,), status, _ = self.play(None, path)
+            self.same(f"a file with a fault, {text}", (one["pointer"], one["name"], status), (*wanted, 1))
 
     def several(self):
         """Several files: each line has its file, images are numbered on, and a file that can't be read or has no scenario doesn't stop the others."""

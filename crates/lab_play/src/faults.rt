@@ -106,17 +106,25 @@ fn first_fault(alloc: Global, scenario: &Value) -> Option<(FaultPlace, ScenarioF
     None
 }
 
-/// Where a scenario has the fault for which it is refused (`simulator::events_of`): the first part with a fault, where
-/// that is this one; else the scenario. None where memory is refused.
-pub fn fault_place(alloc: Global, scenario: &Scenario, fault: ScenarioFault) -> Option<FaultPlace> {
-    let value = match Value::from_slice(alloc, scenario.bytes.as_slice()) {
-        Ok(value) => value,
-        Err(error) if error.is_memory() => return None,
-        Err(_) => return Some(FaultPlace::Text),
-    };
-    match first_fault(alloc, &value) {
+/// Where the value of a scenario has the fault for which it is refused (`simulator::life_of`): the first part with a
+/// fault, where that is this one; else the scenario. None where memory is refused.
+pub(crate) fn place_in(
+    alloc: Global,
+    scenario: &Value,
+    fault: ScenarioFault,
+) -> Option<FaultPlace> {
+    match first_fault(alloc, scenario) {
         Some((_, ScenarioFault::NoMemory)) => None,
         Some((place, found)) if found.number() == fault.number() => Some(place),
         _ => Some(FaultPlace::Whole),
+    }
+}
+
+/// The same where the scenario is a text, which may be no JSON (`simulator::events_of`).
+pub fn fault_place(alloc: Global, scenario: &Scenario, fault: ScenarioFault) -> Option<FaultPlace> {
+    match Value::from_slice(alloc, scenario.bytes.as_slice()) {
+        Ok(value) => place_in(alloc, &value, fault),
+        Err(error) if error.is_memory() => None,
+        Err(_) => Some(FaultPlace::Text),
     }
 }

@@ -5,14 +5,11 @@
 mod digits;
 mod faults;
 mod image_file;
-mod line_bytes;
 mod line_input;
-mod lives_list;
 mod play;
 mod player;
 mod request;
 mod result_line;
-mod scan;
 
 pub use digits::digits_of;
 pub use faults::{FaultPlace, fault_place};

@@ -1,16 +1,13 @@
 //! The command `play`.
 
-use crate::line_bytes::{copy_of, is_blank, without_scenario};
 use crate::line_input::{Line, MOST_LINE, read_line};
-use crate::lives_list::is_list;
 use crate::player::{Player, Source, Totals};
-use crate::request::{Request, id_of, last_end, members_of, request_of, scenario_in};
+use crate::request::{Members, NO_FILE, Request};
 use crate::result_line::{Named, Outputs, write_unplayed};
 use command_line::lab_status::{
     Status, fail, no_memory, refused_args, reported, unread, unread_for,
 };
 use serde_json::Value;
-use simulator::Scenario;
 use std::alloc::AllocError;
 use std::fs::File;
 use std::io::{BufRead, BufReader, ErrorKind, Write};
@@ -48,87 +45,7 @@ const INPUT: &str = "-";
 const KEPT_BYTES: usize = 8_388_608;
 
 impl<'a> Player<'a> {
-    // Plays the scenario of a line whose members are these; whether a line was printed.
-    fn play_members<R: Files<File = File> + AllocGlobal + Eprint, W: Write>(
-        &mut self,
-        rt: &R,
-        number: u64,
-        members: &Value,
-        scenario: &[u8],
-        is_likely: bool,
-        out: &mut W,
-    ) -> Result<bool, Status> {
-        let named = Named {
-            id: id_of(members),
-            file: self.name,
-            line: Some(number),
-        };
-        let request = match request_of(members) {
-            Ok(request) => request,
-            Err(_) if is_likely => return Ok(false),
-            Err(found) => {
-                self.print_line_fault(rt, named, &found, out)?;
-                return Ok(true);
-            }
-        };
-        let source = Source {
-            named,
-            pointer: "/scenario",
-            element: None,
-            is_likely,
-        };
-        if is_list(scenario) {
-            return self.play_list(rt, source, scenario, request, out);
-        }
-        let Ok(bytes) = copy_of(rt.alloc(), scenario) else {
-            self.print_no_memory(rt, named, out)?;
-            return Ok(true);
-        };
-        self.play_one(rt, source, &Scenario { bytes }, request, out)
-    }
-
-    // Plays the scenario that is in a line from one place to another; whether a line was printed.
-    fn play_between<R: Files<File = File> + AllocGlobal + Eprint, W: Write>(
-        &mut self,
-        rt: &R,
-        number: u64,
-        line: &[u8],
-        (from, to): (usize, usize),
-        is_likely: bool,
-        out: &mut W,
-    ) -> Result<bool, Status> {
-        let named = Named {
-            id: None,
-            file: self.name,
-            line: Some(number),
-        };
-        let without = if from < to {
-            without_scenario(rt.alloc(), line, from, to)
-        } else {
-            copy_of(rt.alloc(), line)
-        };
-        let Ok(without) = without else {
-            self.print_no_memory(rt, named, out)?;
-            return Ok(true);
-        };
-        match members_of(rt.alloc(), without.as_slice()) {
-            Ok(members) => {
-                let scenario = match line.get(from..to) {
-                    Some(scenario) => scenario,
-                    None => &[],
-                };
-                self.play_members(rt, number, &members, scenario, is_likely, out)
-            }
-            Err(_) if is_likely => Ok(false),
-            Err(found) => {
-                self.print_line_fault(rt, named, &found, out)?;
-                Ok(true)
-            }
-        }
-    }
-
-    // Plays the scenario of a line. It is mostly the last member, whose end is known: where it is played as that, the
-    // line is JSON, and has it there.
+    // Plays what a line asks for.
     fn play_line<R: Files<File = File> + AllocGlobal + Eprint, W: Write>(
         &mut self,
         rt: &R,
@@ -136,19 +53,30 @@ impl<'a> Player<'a> {
         line: &[u8],
         out: &mut W,
     ) -> Result<(), Status> {
-        if let Some(end) = last_end(line) {
-            if let Some(range) = scenario_in(line, Some(end)) {
-                if self.play_between(rt, number, line, range, true, out)? {
-                    return Ok(());
-                }
-            }
-        }
-        let range = match scenario_in(line, None) {
-            Some(range) => range,
-            None => (line.len(), line.len()),
+        let nameless = Named {
+            id: None,
+            file: self.name,
+            line: Some(number),
         };
-        self.play_between(rt, number, line, range, false, out)?;
-        Ok(())
+        let members = match Members::of_line(rt.alloc(), line) {
+            Ok(members) => members,
+            Err(found) => return self.print_line_fault(rt, nameless, &found, out),
+        };
+        let named = Named {
+            id: members.id(),
+            ..nameless
+        };
+        match members.request() {
+            Ok((request, scenario)) => {
+                let source = Source {
+                    named,
+                    pointer: "/scenario",
+                    element: None,
+                };
+                self.play_value(rt, source, scenario, request, out)
+            }
+            Err(found) => self.print_line_fault(rt, named, &found, out),
+        }
     }
 
     // Prints the line of a line that is too long.
@@ -188,7 +116,7 @@ impl<'a> Player<'a> {
             match read_line(input, &mut line) {
                 Ok(Line::End) => break,
                 Ok(Line::TooLong) => return self.print_too_long(rt, number, out),
-                Ok(Line::Whole) if is_blank(line.as_slice()) => {}
+                Ok(Line::Whole) if line.as_slice().trim_ascii().is_empty() => {}
                 Ok(Line::Whole) => self.play_line(rt, number, line.as_slice(), out)?,
                 Err(error) => {
                     self.leave_unread(unread_line(rt, self.path, number, &error));
@@ -199,11 +127,11 @@ impl<'a> Player<'a> {
         Ok(())
     }
 
-    // Plays the scenario of a file that has these bytes.
+    // Plays the scenarios of a file that has these bytes.
     fn play_file<R: Files<File = File> + AllocGlobal + Eprint, W: Write>(
         &mut self,
         rt: &R,
-        bytes: Vec<u8>,
+        bytes: &[u8],
         out: &mut W,
     ) -> Result<(), Status> {
         let named = Named {
@@ -215,19 +143,12 @@ impl<'a> Player<'a> {
             named,
             pointer: "",
             element: None,
-            is_likely: false,
         };
-        let request = Request {
-            cold: None,
-            slots: None,
-            digest: false,
-        };
-        if is_list(bytes.as_slice()) {
-            self.play_list(rt, source, bytes.as_slice(), request, out)?;
-        } else {
-            self.play_one(rt, source, &Scenario { bytes }, request, out)?;
+        match Value::from_slice(rt.alloc(), bytes) {
+            Ok(value) => self.play_value(rt, source, &value, Request::default(), out),
+            Err(error) if error.is_memory() => self.print_no_memory(rt, named, out),
+            Err(_) => self.print_line_fault(rt, named, &NO_FILE, out),
         }
-        Ok(())
     }
 
     // Plays what the file holds. The error is that of a write.
@@ -238,7 +159,7 @@ impl<'a> Player<'a> {
     ) -> Result<(), Status> {
         if self.path.ends_with(".json") {
             match fs::read(rt, self.path) {
-                Ok(bytes) => return self.play_file(rt, bytes, out),
+                Ok(bytes) => return self.play_file(rt, bytes.as_slice(), out),
                 Err(error) => self.leave_unread(unread_for(rt, self.path, &error)),
             }
             return Ok(());

@@ -1,8 +1,7 @@
 //! Plays the scenarios of a line, and prints its line.
 
-use crate::faults::fault_place;
+use crate::faults::place_in;
 use crate::image_file::write_image;
-use crate::lives_list::scenarios_of;
 use crate::request::{LineFault, Request};
 use crate::result_line::{
     LifeOptions, Named, Outputs, begin_lives, end_lives, write_fault, write_next,
@@ -63,21 +62,18 @@ pub(crate) struct Source<'v> {
     pub pointer: &'static str,
     /// Its number in a list, from 0 on.
     pub element: Option<usize>,
-    /// Whether that place is only likely: nothing is printed of a fault there.
-    pub is_likely: bool,
 }
 
 // The step of the scenario at which a life stopped.
-fn step_of(alloc: Global, scenario: &Scenario, error: LiveError) -> Option<u64> {
+fn step_of(alloc: Global, scenario: &Value, error: LiveError) -> Option<u64> {
     let place = match error {
         LiveError::Open(_) => return None,
         LiveError::Accept(place, _) => place,
         LiveError::Flush(place, _) => place,
         LiveError::NoMemory(place) => place,
     };
-    let Ok(ends) = ends_of(alloc, scenario) else {
-        return None;
-    };
+    let bytes = scenario.to_vec(alloc).ok()?;
+    let ends = ends_of(alloc, &Scenario { bytes }).ok()?;
     let mut step = 0u64;
     for end in ends.as_slice() {
         if *end > place {
@@ -164,7 +160,7 @@ impl<'a> Player<'a> {
         &mut self,
         rt: &R,
         turn: Turn<'_>,
-        scenario: &Scenario,
+        scenario: &Value,
         played: &mut Played,
         digest: bool,
         out: &mut W,
@@ -216,13 +212,13 @@ impl<'a> Player<'a> {
         &mut self,
         rt: &R,
         source: Source<'_>,
-        scenario: &Scenario,
+        scenario: &Value,
         fault: ScenarioFault,
         out: &mut W,
     ) -> Result<(), Status> {
         let place = match fault {
             ScenarioFault::NoMemory => None,
-            _ => fault_place(rt.alloc(), scenario, fault),
+            _ => place_in(rt.alloc(), scenario, fault),
         };
         let Some(place) = place else {
             return self.print_no_memory(rt, source.named, out);
@@ -255,15 +251,15 @@ impl<'a> Player<'a> {
         }
     }
 
-    /// Plays a scenario, and prints its line; whether a line was printed.
-    pub(crate) fn play_one<R: Files<File = File> + AllocGlobal + Eprint, W: Write>(
+    // Plays a scenario, and prints its line.
+    fn play_one<R: Files<File = File> + AllocGlobal + Eprint, W: Write>(
         &mut self,
         rt: &R,
         source: Source<'_>,
-        scenario: &Scenario,
+        scenario: &Value,
         request: Request,
         out: &mut W,
-    ) -> Result<bool, Status> {
+    ) -> Result<(), Status> {
         match play(
             rt.alloc(),
             scenario,
@@ -280,65 +276,69 @@ impl<'a> Player<'a> {
                     &mut played,
                     request.digest,
                     out,
-                )?;
+                )
             }
-            Err(PlayError::Scenario(_)) if source.is_likely => return Ok(false),
-            Err(PlayError::Scenario(fault)) => {
-                self.print_fault(rt, source, scenario, fault, out)?;
-            }
-            Err(_) => self.print_no_memory(rt, source.named, out)?,
+            Err(PlayError::Scenario(fault)) => self.print_fault(rt, source, scenario, fault, out),
+            Err(_) => self.print_no_memory(rt, source.named, out),
         }
-        Ok(true)
     }
 
-    /// Plays the scenarios of a list, each on the journal that the one before left, and prints their line; whether a
-    /// line was printed.
-    pub(crate) fn play_list<R: Files<File = File> + AllocGlobal + Eprint, W: Write>(
+    // Plays the scenarios of a list, each on the journal that the one before left, and prints their line.
+    fn play_list<R: Files<File = File> + AllocGlobal + Eprint, W: Write>(
         &mut self,
         rt: &R,
         source: Source<'_>,
-        list: &[u8],
+        scenarios: &[Value],
         request: Request,
         out: &mut W,
-    ) -> Result<bool, Status> {
-        let scenarios = match scenarios_of(rt.alloc(), list, source.pointer) {
-            Ok(scenarios) => scenarios,
-            Err(_) if source.is_likely => return Ok(false),
-            Err(found) => {
-                self.print_line_fault(rt, source.named, &found, out)?;
-                return Ok(true);
-            }
-        };
+    ) -> Result<(), Status> {
         let mut calls = 0u64;
         for (element, scenario) in scenarios.iter().enumerate() {
             match calls_for(rt.alloc(), scenario, self.slots_of(request)) {
                 Ok(more) => calls = calls.saturating_add(more),
-                Err(PlayError::Scenario(_)) if source.is_likely => return Ok(false),
                 Err(PlayError::Scenario(fault)) => {
                     let source = Source {
                         element: Some(element),
                         ..source
                     };
-                    self.print_fault(rt, source, scenario, fault, out)?;
-                    return Ok(true);
+                    return self.print_fault(rt, source, scenario, fault, out);
                 }
-                Err(_) => {
-                    self.print_no_memory(rt, source.named, out)?;
-                    return Ok(true);
-                }
+                Err(_) => return self.print_no_memory(rt, source.named, out),
             }
         }
         reported(rt, self.path, begin_lives(source.named, out))?;
-        self.play_in_turn(rt, scenarios.as_slice(), request, calls, out)?;
-        reported(rt, self.path, end_lives(out))?;
-        Ok(true)
+        self.play_in_turn(rt, scenarios, request, calls, out)?;
+        reported(rt, self.path, end_lives(out))
+    }
+
+    /// Plays a scenario or those of a list, and prints their line.
+    pub(crate) fn play_value<R: Files<File = File> + AllocGlobal + Eprint, W: Write>(
+        &mut self,
+        rt: &R,
+        source: Source<'_>,
+        value: &Value,
+        request: Request,
+        out: &mut W,
+    ) -> Result<(), Status> {
+        match value.as_array() {
+            Some(list) if list.is_empty() => {
+                let found = LineFault {
+                    fault: ScenarioFault::Shape,
+                    pointer: source.pointer,
+                    wanted: "a scenario, or a list of scenarios",
+                };
+                self.print_line_fault(rt, source.named, &found, out)
+            }
+            Some(list) => self.play_list(rt, source, list.as_slice(), request, out),
+            None => self.play_one(rt, source, value, request, out),
+        }
     }
 
     // Plays scenarios, each on the journal that the one before left, up to one that memory is refused for.
     fn play_in_turn<R: Files<File = File> + AllocGlobal + Eprint, W: Write>(
         &mut self,
         rt: &R,
-        scenarios: &[Scenario],
+        scenarios: &[Value],
         request: Request,
         calls: u64,
         out: &mut W,

@@ -1,7 +1,7 @@
 //! What a line of `play` asks for.
 
-use crate::scan::Scan;
 use mode_table::Cold;
+use serde::{Deserialize, Deserializer, Format};
 use serde_json::Value;
 use simulator::ScenarioFault;
 use std::alloc::Global;
@@ -18,7 +18,7 @@ pub(crate) struct LineFault {
 }
 
 /// What a line asks for, next to its scenario.
-#[derive(Clone, Copy)]
+#[derive(Clone, Copy, Default)]
 pub(crate) struct Request {
     /// What is known of movements without power, in place of what the scenario says.
     pub cold: Option<Cold>,
@@ -66,48 +66,50 @@ const NOT_JSON: LineFault = LineFault {
     wanted: "a JSON object on one line",
 };
 
-/// Memory was refused.
-pub(crate) const NO_MEMORY: LineFault = LineFault {
+/// A file that is no JSON.
+pub(crate) const NO_FILE: LineFault = LineFault {
+    fault: ScenarioFault::NotJson,
+    pointer: "",
+    wanted: "JSON (RFC 8259)",
+};
+
+// Memory was refused.
+const NO_MEMORY: LineFault = LineFault {
     fault: ScenarioFault::NoMemory,
     pointer: "",
     wanted: "memory",
 };
 
-/// Where the last member of a line ends, if the line ends with an object or a list in an object.
-pub(crate) fn last_end(line: &[u8]) -> Option<usize> {
-    let (last, members) = line.split_last()?;
-    let (end, _) = members.split_last()?;
-    if *last == b'}' && (*end == b'}' || *end == b']') {
-        Some(members.len())
-    } else {
-        None
+// How many members an object has, also where several have one name.
+#[derive(Drop)]
+struct Entries(usize);
+
+impl<'de> Deserialize<'de> for Entries {
+    fn deserialize<F: Format>(
+        alloc: Global,
+        from: &mut Deserializer<'de, '_, F>,
+    ) -> Result<Entries, F::Error> {
+        from.begin_map()?;
+        let mut count = 0usize;
+        for _ in 0..u64::MAX {
+            if !from.next_entry()? {
+                break;
+            }
+            from.string(alloc)?;
+            from.skip()?;
+            count = count.saturating_add(1);
+        }
+        Ok(Entries(count))
     }
 }
 
-/// Where the value of the member `scenario` of a line is. Of a line that is no JSON it is any part of it. Where an end
-/// is given it is the end of the line's last member, which is taken to be this one, and not looked for.
-pub(crate) fn scenario_in(line: &[u8], given_end: Option<usize>) -> Option<(usize, usize)> {
-    let mut scan = Scan::new();
-    let mut found = None;
-    for at in 0..line.len() {
-        let byte = line[at];
-        if scan.is_in_text() {
-            scan.pass_text(byte, at);
-            continue;
-        }
-        if scan.depth() == 1 {
-            match (byte, found) {
-                (b':', None) if scan.has(line, b"scenario") => match given_end {
-                    Some(end) => return Some((at + 1, end)),
-                    None => found = Some(at + 1),
-                },
-                (b',' | b'}', Some(from)) => return Some((from, at)),
-                _ => {}
-            }
-        }
-        scan.pass(byte, at);
-    }
-    None
+/// The members of a line.
+#[derive(Drop)]
+pub(crate) struct Members {
+    // The line's value.
+    value: Value,
+    // How many members it has; 0 of a value that is no object.
+    count: usize,
 }
 
 fn cold_of(members: &Value) -> Result<Option<Cold>, LineFault> {
@@ -139,55 +141,49 @@ fn digest_of(members: &Value) -> Result<bool, LineFault> {
     }
 }
 
-// Whether an object has a scenario, which was taken out of it, and no member that is not known.
-fn has_members(members: &Value) -> bool {
-    let mut known = 0usize;
-    for name in NAMES {
-        if members.get(name).is_some() {
-            known = known.saturating_add(1);
+impl Members {
+    /// The members of a line.
+    pub(crate) fn of_line(alloc: Global, line: &[u8]) -> Result<Members, LineFault> {
+        let value = match Value::from_slice(alloc, line) {
+            Ok(value) => value,
+            Err(error) if error.is_memory() => return Err(NO_MEMORY),
+            Err(_) => return Err(NOT_JSON),
+        };
+        match serde_json::from_slice(alloc, line) {
+            Ok(Entries(count)) => Ok(Members { value, count }),
+            Err(error) if error.is_memory() => Err(NO_MEMORY),
+            Err(_) => Ok(Members { value, count: 0 }),
         }
     }
-    let is_taken = match members.get("scenario") {
-        Some(scenario) => scenario.is_null(),
-        None => false,
-    };
-    match members.as_object() {
-        Some(map) => is_taken && map.len() == known,
-        None => false,
-    }
-}
 
-/// The name of the scenario, where it is a text or a whole number.
-pub(crate) fn id_of(members: &Value) -> Option<&Value> {
-    match members.get("id") {
-        Some(id) if id.is_string() || id.is_i64() || id.is_u64() => Some(id),
-        _ => None,
+    /// The name of the scenario, where it is a text or a whole number.
+    pub(crate) fn id(&self) -> Option<&Value> {
+        match self.value.get("id") {
+            Some(id) if id.is_string() || id.is_i64() || id.is_u64() => Some(id),
+            _ => None,
+        }
     }
-}
 
-/// The members of a line, in which null is in the place of the scenario.
-pub(crate) fn members_of(alloc: Global, line: &[u8]) -> Result<Value, LineFault> {
-    match Value::from_slice(alloc, line) {
-        Ok(members) => Ok(members),
-        Err(error) if error.is_memory() => Err(NO_MEMORY),
-        Err(_) => Err(NOT_JSON),
+    // The scenario, where each member is known and none is there twice.
+    fn scenario(&self) -> Option<&Value> {
+        let known = NAMES.iter().filter(|name| self.value.get(**name).is_some());
+        if self.count != known.count() {
+            return None;
+        }
+        self.value.get("scenario")
     }
-}
 
-/// What the members of a line ask for.
-pub(crate) fn request_of(members: &Value) -> Result<Request, LineFault> {
-    if !has_members(members) {
-        return Err(MEMBERS);
+    /// What the line asks for, and its scenario.
+    pub(crate) fn request(&self) -> Result<(Request, &Value), LineFault> {
+        let scenario = self.scenario().ok_or(MEMBERS)?;
+        if self.value.get("id").is_some() && self.id().is_none() {
+            return Err(ID);
+        }
+        let request = Request {
+            cold: cold_of(&self.value)?,
+            slots: slots_of(&self.value)?,
+            digest: digest_of(&self.value)?,
+        };
+        Ok((request, scenario))
     }
-    if members.get("id").is_some() && id_of(members).is_none() {
-        return Err(ID);
-    }
-    let cold = cold_of(members)?;
-    let slots = slots_of(members)?;
-    let digest = digest_of(members)?;
-    Ok(Request {
-        cold,
-        slots,
-        digest,
-    })
 }

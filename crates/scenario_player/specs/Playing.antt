@@ -18,7 +18,8 @@ use Rattle.onboard.specs.declared.errors.FlushError.TheVariants as a_flush
 use Rattle.onboard.specs.declared.released.Released.{Released}
 use Rattle.ring.specs.Account.{Account, DescribesNothing}
 use Rattle.ring.specs.Slots.{IsAtRest}
-use Rattle.simulator.specs.Scenarios.{Describes}
+use Rattle.serde_json.specs.Data.{Data}
+use Rattle.simulator.specs.Lives.{life_in}
 use Rattle.unit_start.specs.Events.{pairs_of}
 use Rattle.unit_start.specs.Lives.{IsReady, IsNextNumber}
 use Rattle.whole_lives.specs.Runs.{Lives, durable_by}
@@ -129,12 +130,12 @@ abbrev pub cold_by : Option Cold → Cold → Cold
 cold_by None own_cold = own_cold
 cold_by (Some given) own_cold = given
 
--- the life that the bytes of the scenario describe was played
-abbrev pub PlaysOne : {T : Type 0} → List ℕ → Option Cold → ℕ → Result T LiveError → List Released → State → Type 0
-PlaysOne bytes given slots ended released new =
-    (own_cold : Cold) × (steps : List Step) × Describes bytes own_cold steps × IsPlayed slots (cold_by given own_cold) steps ended released new
+-- the life that the value of the scenario describes was played
+abbrev pub PlaysOne : {T : Type 0} → Data → Option Cold → ℕ → Result T LiveError → List Released → State → Type 0
+PlaysOne value given slots ended released new =
+    (own_cold : Cold) × (steps : List Step) × (life_in value ≡ Ok (own_cold, steps)) × IsPlayed slots (cold_by given own_cold) steps ended released new
 
 -- the same on a disk that was ready for these events
-abbrev pub PlaysAfter : {T : Type 0} → (durable accepted : List Event) → List ℕ → Option Cold → Result T LiveError → List Released → State → State → Type 0
-PlaysAfter durable accepted bytes given ended released old new =
-    (own_cold : Cold) × (steps : List Step) × Describes bytes own_cold steps × IsPlayedAfter durable accepted (cold_by given own_cold) steps ended released old new
+abbrev pub PlaysAfter : {T : Type 0} → (durable accepted : List Event) → Data → Option Cold → Result T LiveError → List Released → State → State → Type 0
+PlaysAfter durable accepted value given ended released old new =
+    (own_cold : Cold) × (steps : List Step) × (life_in value ≡ Ok (own_cold, steps)) × IsPlayedAfter durable accepted (cold_by given own_cold) steps ended released old new

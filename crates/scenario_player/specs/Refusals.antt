@@ -1,7 +1,8 @@
 -- Why a scenario isn't played (this project's profile).
-use Rattle.std.specs.Prelude.{◌⊎◌, ℕ, ◌<◌, List}
+use Rattle.std.specs.Prelude.{◌≡◌, ◌⊎◌, ℕ, ◌<◌, Err}
 use Rattle.blocks.specs.FirstSector.{least_slots, most_slots}
-use Rattle.simulator.specs.Scenarios.{FaultOf}
+use Rattle.serde_json.specs.Data.{Data}
+use Rattle.simulator.specs.Lives.{life_in}
 use Rattle.simulator.specs.declared.fault.ScenarioFault.{ScenarioFault}
 use Rattle.simulator.specs.declared.fault.ScenarioFault.TheVariants as a_fault
 use Rattle.scenario_player.specs.declared.error.PlayError.{PlayError}
@@ -19,15 +20,15 @@ error_of a_fault.OutOfRange = Scenario a_fault.OutOfRange
 error_of a_fault.BadHex = Scenario a_fault.BadHex
 error_of a_fault.NoMemory = NoMemory
 
--- The cause of each error: the number of slots, the first fault of the text, or memory that was refused, of which
+-- The cause of each error: the number of slots, the first fault of the value, or memory that was refused, of which
 -- nothing is said.
-abbrev pub IsCause : List ℕ → ℕ → PlayError → Type 0
-IsCause bytes slots BadSlots = HasNoJournal slots
-IsCause bytes slots (Scenario fault) = FaultOf bytes fault
-IsCause bytes slots NoMemory = Unit {0}
+abbrev pub IsCause : Data → ℕ → PlayError → Type 0
+IsCause value slots BadSlots = HasNoJournal slots
+IsCause value slots (Scenario fault) = life_in value ≡ Err fault
+IsCause value slots NoMemory = Unit {0}
 
 -- the same of a life after others, whose journal has been made
-abbrev pub IsCauseAfter : List ℕ → PlayError → Type 0
-IsCauseAfter bytes BadSlots = ⊥
-IsCauseAfter bytes (Scenario fault) = FaultOf bytes fault
-IsCauseAfter bytes NoMemory = Unit {0}
+abbrev pub IsCauseAfter : Data → PlayError → Type 0
+IsCauseAfter value BadSlots = ⊥
+IsCauseAfter value (Scenario fault) = life_in value ≡ Err fault
+IsCauseAfter value NoMemory = Unit {0}

@@ -3,6 +3,7 @@ ghost use Rattle.std.specs.Prelude.{◌≡◌, ℕ, ◌≤◌, List, true, false
 ghost use Rattle.blocks.specs.FirstSector.{least_slots, most_slots};
 ghost use Rattle.disk.specs.Memory.{memory_state};
 ghost use Rattle.events.specs.declared.input.Event.{Event};
+ghost use Rattle.serde_json.specs.View.{view};
 ghost use Rattle.unit_start.specs.Lives.{IsReady};
 ghost use Rattle.scenario_player.specs.Calls.{AreCallsFor};
 ghost use Rattle.scenario_player.specs.Playing.{cold_by, PlaysOne, PlaysAfter};
@@ -14,7 +15,8 @@ use crate::life::{Played, play_first, play_life};
 use blocks::{LEAST_SLOTS, MOST_SLOTS};
 use disk::Memory;
 use mode_table::Cold;
-use simulator::{Scenario, events_of};
+use serde_json::Value;
+use simulator::life_of;
 use std::alloc::Global;
 
 // Whether a journal has so many slots.
@@ -40,21 +42,21 @@ fn cold_by(given: Option<Cold>, own_cold: Cold) -> Cold
 /// and where a life was not played for want of memory.
 pub fn play(
     alloc: Global,
-    scenario: &Scenario,
+    scenario: &Value,
     given: Option<Cold>,
     slots: u32,
     later_calls: u64,
 ) -> Result<Played, PlayError>
     // The life of the scenario was played, and what is answered is all that `live` answers on that journal.
-    ensures ok { IfOk result (λ outcome. PlaysOne scenario.now.bytes.items given slots outcome.ended
+    ensures ok { IfOk result (λ outcome. PlaysOne (view scenario.now) given slots outcome.ended
         outcome.released.items (memory_state outcome.disk)) }
-    ensures err { IfErr result (IsCause scenario.now.bytes.items slots) }
+    ensures err { IfErr result (IsCause (view scenario.now) slots) }
     ensures slots { HasNoJournal slots → result ≡ Err PlayError.BadSlots }
 {
     if !has_journal(slots) {
         return Err(PlayError::BadSlots);
     }
-    match events_of(alloc, scenario) {
+    match life_of(alloc, scenario) {
         Ok((own_cold, steps)) => match play_first(
             alloc,
             slots,
@@ -75,15 +77,15 @@ pub fn play(
 pub fn play_after(
     alloc: Global,
     disk: Memory,
-    scenario: &Scenario,
+    scenario: &Value,
     given: Option<Cold>,
 ) -> Result<Played, PlayError>
     ensures ok { (durable accepted : List Event) → IsReady 0 durable accepted (memory_state disk) →
-        IfOk result (λ outcome. PlaysAfter durable accepted scenario.now.bytes.items given outcome.ended
+        IfOk result (λ outcome. PlaysAfter durable accepted (view scenario.now) given outcome.ended
         outcome.released.items (memory_state disk) (memory_state outcome.disk)) }
-    ensures err { IfErr result (IsCauseAfter scenario.now.bytes.items) }
+    ensures err { IfErr result (IsCauseAfter (view scenario.now)) }
 {
-    match events_of(alloc, scenario) {
+    match life_of(alloc, scenario) {
         Ok((own_cold, steps)) => {
             match play_life(alloc, disk, cold_by(given, own_cold), steps.as_slice()) {
                 Ok(played) => Ok(played),
@@ -96,11 +98,11 @@ pub fn play_after(
 
 /// At least as many calls of the device as a life of this scenario makes on a journal of so many slots; else the first
 /// fault of the scenario, in the place of which NoMemory may come.
-pub fn calls_for(alloc: Global, scenario: &Scenario, slots: u32) -> Result<u64, PlayError>
-    ensures calls { IfOk result (AreCallsFor scenario.now.bytes.items slots) }
-    ensures err { IfErr result (IsCauseAfter scenario.now.bytes.items) }
+pub fn calls_for(alloc: Global, scenario: &Value, slots: u32) -> Result<u64, PlayError>
+    ensures calls { IfOk result (AreCallsFor (view scenario.now) slots) }
+    ensures err { IfErr result (IsCauseAfter (view scenario.now)) }
 {
-    match events_of(alloc, scenario) {
+    match life_of(alloc, scenario) {
         Ok((_, steps)) => Ok(calls_of(slots, steps.as_slice())),
         Err(fault) => Err(error_of(fault)),
     }

@@ -1,4 +1,4 @@
-//! The calls of `include/etcs_guard.h`.
+//! The calls of `etcs_guard.h`.
 use track_guard::{
     EtcsDemand, EtcsGuard, EtcsSituation, acknowledge_call, begin_call, command_call, demand_call,
     hear_call,

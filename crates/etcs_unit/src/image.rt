@@ -1,4 +1,4 @@
-//! The calls of `include/etcs_image.h`.
+//! The calls of `etcs_image.h`.
 use image_calls::{
     EtcsBlock, EtcsImage, EtcsJournal, EtcsRecord, EtcsReplay, EtcsSlot, EtcsSlotStart, EtcsWhy,
     block_call, facts_call, journal_call, next_call, record_call, replay_call, slot_call,

@@ -1,4 +1,4 @@
-//! The calls of `include/etcs_unit.h` on a unit from its power-up on.
+//! The calls of `etcs_unit.h` on a unit from its power-up on.
 use std::alloc::Global;
 use unit_calls::{
     EtcsRequest, EtcsUnit, unit_begin_call, unit_close_call, unit_fail_call, unit_provide_call,

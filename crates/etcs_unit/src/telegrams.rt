@@ -1,4 +1,4 @@
-//! The calls of `include/etcs.h`, and the one of `include/etcs_unit.h` on a telegram.
+//! The calls of `etcs.h`, and the one of `etcs_unit.h` on a telegram.
 ghost use Rattle.std.specs.Prelude.{◌≡◌, ◌↔◌, length};
 ghost use Rattle.telegram.specs.Faults.{number_of_fault};
 ghost use Rattle.telegram.specs.Telegrams.{Carries, RefusesBytes};

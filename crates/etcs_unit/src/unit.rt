@@ -1,4 +1,4 @@
-//! The calls of `include/etcs_unit.h`.
+//! The calls of `etcs_unit.h`.
 use c_numbers::abi_call;
 use std::alloc::Global;
 use unit_calls::{

@@ -10,8 +10,8 @@ use Rattle.authority.specs.Entries.{Sight}
 use Rattle.events.specs.declared.input.Reading.{Reading}
 use Rattle.linking.specs.declared.announcement.Announcement.{Announcement}
 use Rattle.linking.specs.Linking.{LinkEntry}
-use Rattle.restriction.specs.declared.restriction.Restriction.{Restriction}
-use Rattle.restriction.specs.Covering.{end_of, reaches_past, covers}
+use Rattle.track_store.specs.declared.restriction.Restriction.{Restriction}
+use Rattle.track_store.specs.Covering.{end_of, reaches_past, covers}
 use Rattle.track_store.specs.Facts.{latest}
 use Rattle.track_store.specs.Restrictions.{InForce}
 use Rattle.track_picture.specs.Entry.{TrackEntry}

@@ -15,7 +15,7 @@ use Rattle.events.specs.declared.input.Input.{Input}
 use Rattle.mode_table.specs.declared.mode.Mode.{Mode}
 use Rattle.mode_table.specs.Modes.{is_mode}
 use Rattle.mode_table.specs.Rows.{next_mode}
-use Rattle.restriction.specs.Covering.{covers, train_start}
+use Rattle.track_store.specs.Covering.{covers, train_start}
 use Rattle.speed_profile.specs.Ahead.{greatest_place, is_inside, static_target, targets_ahead, targets_at}
 use Rattle.speed_profile.specs.Limit.{bound_speed, limiting_value, speeds_at}
 use Rattle.track_store.specs.Profiles.{listed}

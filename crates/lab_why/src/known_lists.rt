@@ -3,7 +3,7 @@
 use crate::serializing::{write_area_mode, write_orientation, write_reaction};
 use areas::Area;
 use linking::Announcement;
-use restriction::Restriction;
+use track_store::Restriction;
 use serde::Serialize;
 use std::alloc::{AllocError, Global};
 use units::Cm;

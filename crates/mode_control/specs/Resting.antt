@@ -1,4 +1,4 @@
--- A scaffold for proofs alone: no public clause reaches it (`tools/definitions --check`). An event that leaves all as it
+-- A scaffold for proofs alone: no public clause reaches it (`tools/dev/definitions --check`). An event that leaves all as it
 -- is: the mode stays, and nothing is called for, owed or left (this project's profile).
 use Rattle.std.specs.Prelude.{◌≡◌, Option, None, []}
 use Rattle.areas.specs.declared.acknowledgement.Acknowledgement.TheVariants.{Nothing}

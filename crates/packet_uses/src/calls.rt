@@ -1,4 +1,4 @@
-//! What C asks of a telegram's packets (`include/etcs_unit.h`).
+//! What C asks of a telegram's packets (`etcs_unit.h`).
 ghost use Rattle.std.specs.Prelude.{◌≡◌};
 ghost use Rattle.std.specs.List.{slice_get};
 ghost use Rattle.packet_uses.specs.Calls.{DescribesFor, DescribesIn, DescribesOne, DescribesUnused, direction_by, fate_number, is_unused as is_unused_reported, description_of, unused_among, wide_mode_by};

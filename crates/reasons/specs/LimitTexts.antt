@@ -14,7 +14,7 @@ use Rattle.speed_supervision.specs.declared.cause.SpeedCause.TheVariants as spee
 use Rattle.speed_supervision.specs.declared.cause.TargetAhead.{TargetAhead}
 use Rattle.speed_supervision.specs.declared.cause.TargetKind.{TargetKind}
 use Rattle.speed_supervision.specs.declared.cause.TargetKind.TheVariants as target
-use Rattle.restriction.specs.declared.restriction.Restriction.{Restriction}
+use Rattle.track_store.specs.declared.restriction.Restriction.{Restriction}
 use Rattle.reasons.specs.declared.limit_texts.LimitKind.{LimitKind}
 use Rattle.reasons.specs.declared.limit_texts.LimitKind.TheVariants as kind
 use Rattle.reasons.specs.declared.limit_texts.LimitReport.{LimitReport}

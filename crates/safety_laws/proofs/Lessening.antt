@@ -13,8 +13,8 @@ use Rattle.braking.specs.Braking.{braked, fits, fits_all, greatest}
 use Rattle.braking.proofs.Braked.{braked_over}
 use Rattle.braking.proofs.Greatest.{greatest_within}
 use Rattle.braking.proofs.Slower.{slow_fits, braking_fits, late_fails}
-use Rattle.restriction.specs.declared.restriction.Restriction.{Restriction}
-use Rattle.restriction.specs.Covering.{covers, limits_at}
+use Rattle.track_store.specs.declared.restriction.Restriction.{Restriction}
+use Rattle.track_store.specs.Covering.{covers, limits_at}
 use Rattle.speed_profile.proofs.Asking.{fit_all}
 use Rattle.speed_profile.proofs.Members.{in_left, in_right, in_either, one_passed, passes}
 use Rattle.speed_profile.specs.Ahead.{targets_ahead, targets_at, static_targets, restriction_targets, area_targets, permitted_ahead, greatest_place}

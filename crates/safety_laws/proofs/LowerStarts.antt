@@ -11,8 +11,8 @@ use Rattle.authority.specs.declared.answers.End.{End}
 use Rattle.brakes.specs.declared.brakes.Brakes.{Brakes}
 use Rattle.braking.specs.declared.target.Target.{Target}
 use Rattle.braking.specs.Braking.{greatest}
-use Rattle.restriction.specs.declared.restriction.Restriction.{Restriction}
-use Rattle.restriction.specs.Covering.{covers}
+use Rattle.track_store.specs.declared.restriction.Restriction.{Restriction}
+use Rattle.track_store.specs.Covering.{covers}
 use Rattle.speed_profile.proofs.Asking.{covered_ask, nothing_more, through, joined, back, equal, same}
 use Rattle.speed_profile.proofs.Farther.{IsNoNearer}
 use Rattle.speed_profile.proofs.Members.{one_passed, in_either}

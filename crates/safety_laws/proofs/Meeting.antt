@@ -17,8 +17,8 @@ use Rattle.braking.specs.Braking.{fits, fits_all, greatest}
 use Rattle.braking.proofs.Slower.{slower_fits, slow_fits}
 use Rattle.packets.specs.declared.authority.DangerPoint.{DangerPoint}
 use Rattle.packets.specs.declared.authority.Overlap.{Overlap}
-use Rattle.restriction.specs.declared.restriction.Restriction.{Restriction}
-use Rattle.restriction.specs.Covering.{covers}
+use Rattle.track_store.specs.declared.restriction.Restriction.{Restriction}
+use Rattle.track_store.specs.Covering.{covers}
 use Rattle.vars.specs.declared.scale.Scale.{Scale}
 use Rattle.speed_profile.proofs.Farther.{IsNoNearer, farther_fits}
 use Rattle.speed_profile.proofs.Members.{in_left, in_right, passes}

@@ -17,8 +17,8 @@ use Rattle.braking.specs.Braking.{fits}
 use Rattle.driver.specs.declared.datum.Datum.TheVariants.{Valid}
 use Rattle.driver.specs.Limits.{Train}
 use Rattle.mode_table.specs.Modes.{is_one_of}
-use Rattle.restriction.specs.declared.restriction.Restriction.{Restriction}
-use Rattle.restriction.specs.Covering.{covers}
+use Rattle.track_store.specs.declared.restriction.Restriction.{Restriction}
+use Rattle.track_store.specs.Covering.{covers}
 use Rattle.speed_profile.specs.Ahead.{greatest_place, is_inside}
 use Rattle.speed_profile.specs.declared.reported.CategorySpeeds.{CategorySpeeds}
 use Rattle.speed_profile.specs.Reported.{speed_of}

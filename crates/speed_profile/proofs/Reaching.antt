@@ -4,8 +4,8 @@ use Rattle.std.specs.Prelude.{Option, None, Some, IfSome, int_lt, not, ◌&&◌,
 use Rattle.std.specs.Int.{int_max}
 use Rattle.std.proofs.lemmas.Int.{ints}
 use Rattle.track_store.specs.Profiles.{listed}
-use Rattle.restriction.specs.declared.restriction.Restriction.{Restriction}
-use Rattle.restriction.specs.Covering.{covers, end_of}
+use Rattle.track_store.specs.declared.restriction.Restriction.{Restriction}
+use Rattle.track_store.specs.Covering.{covers, end_of}
 use Rattle.braking.specs.declared.target.Target.{Target}
 use Rattle.areas.specs.declared.area.Area.{Area}
 use Rattle.areas.specs.declared.area.NationalSpeeds.{NationalSpeeds}

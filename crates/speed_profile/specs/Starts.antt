@@ -3,8 +3,8 @@
 use Rattle.std.specs.Prelude.{ℕ, ℤ, pos, ◌+ℤ◌, int_lt, not, ◌&&◌, if◌then◌else◌, Option, None, Some, List, []}
 use Rattle.std.specs.Int.{int_max}
 use Rattle.units.specs.Stretches.{over, count_between}
-use Rattle.restriction.specs.declared.restriction.Restriction.{Restriction}
-use Rattle.restriction.specs.Covering.{end_of}
+use Rattle.track_store.specs.declared.restriction.Restriction.{Restriction}
+use Rattle.track_store.specs.Covering.{end_of}
 use Rattle.areas.specs.declared.area.Area.{Area}
 use Rattle.areas.specs.declared.area.NationalSpeeds.{NationalSpeeds}
 use Rattle.areas.specs.Areas.{is_before, speed_in}

@@ -7,8 +7,8 @@ use Rattle.std.proofs.lemmas.Int.{ints}
 use Rattle.std.proofs.lemmas.Option.{same_Some}
 use Rattle.units.proofs.Gathering.{IsIn, in_over}
 use Rattle.track_store.specs.Profiles.{Lasts, listed}
-use Rattle.restriction.specs.declared.restriction.Restriction.{Restriction}
-use Rattle.restriction.specs.Covering.{covers, end_of}
+use Rattle.track_store.specs.declared.restriction.Restriction.{Restriction}
+use Rattle.track_store.specs.Covering.{covers, end_of}
 use Rattle.areas.specs.declared.area.Area.{Area}
 use Rattle.areas.specs.Areas.{is_before, speed_in}
 use Rattle.authority.specs.declared.answers.End.{End}

@@ -9,9 +9,9 @@ use Rattle.units.proofs.Gathering.{over_at}
 use Rattle.areas.specs.declared.area.Area.{Area}
 use Rattle.areas.specs.declared.area.NationalSpeeds.{NationalSpeeds}
 use Rattle.areas.specs.Areas.{is_before, is_met, speed_in, least_speed as least_in_areas}
-use Rattle.restriction.specs.declared.restriction.Restriction.{Restriction}
-use Rattle.restriction.specs.Covering.{end_of, limits_at}
-use Rattle.restriction.specs.Meeting.{meets}
+use Rattle.track_store.specs.declared.restriction.Restriction.{Restriction}
+use Rattle.track_store.specs.Covering.{end_of, limits_at}
+use Rattle.track_store.specs.Meeting.{meets}
 use Rattle.track_store.specs.Profiles.{Lasts}
 use Rattle.track_store.specs.Restrictions.{InForce, speeds_at, least_speed}
 use Rattle.track_store.proofs.Limiting.{limits_met, met_limits}

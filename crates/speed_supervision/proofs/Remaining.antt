@@ -10,8 +10,8 @@ use Rattle.units.specs.Stretches.{Span, IsOrdered, over, least, natural}
 use Rattle.units.proofs.Gathering.{IsIn, over_at, in_over}
 use Rattle.vars.specs.declared.restriction.TrainLengthDelay.{TrainLengthDelay}
 use Rattle.vars.specs.declared.restriction.TrainLengthDelay.TheVariants.{Applied, NotApplied}
-use Rattle.restriction.specs.declared.restriction.Restriction.{Restriction}
-use Rattle.restriction.specs.Covering.{covers, train_start, limits_at}
+use Rattle.track_store.specs.declared.restriction.Restriction.{Restriction}
+use Rattle.track_store.specs.Covering.{covers, train_start, limits_at}
 use Rattle.areas.specs.declared.area.Area.{Area}
 use Rattle.areas.specs.Areas.{is_before, is_met, speed_in}
 use Rattle.authority.specs.declared.answers.End.{End}

@@ -6,7 +6,7 @@ use Rattle.driver.specs.declared.datum.Datum.TheVariants.{Unknown, Valid, Invali
 use Rattle.driver.specs.Limits.{Train}
 use Rattle.mode_table.specs.declared.mode.Mode.{Mode}
 use Rattle.mode_table.specs.declared.mode.Mode.TheVariants.{FullSupervision, OnSight, StaffResponsible, Shunting, Unfitted, StandBy, Trip, PostTrip, SystemFailure}
-use Rattle.restriction.specs.declared.restriction.Restriction.{Restriction}
+use Rattle.track_store.specs.declared.restriction.Restriction.{Restriction}
 use Rattle.track_picture.specs.History.{restrictions_of, gradients_of}
 use Rattle.mode_control.specs.Conditions.{is_overridden}
 use Rattle.mode_control.specs.History.{tracks, mode_of}

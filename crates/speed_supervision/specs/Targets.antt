@@ -1,7 +1,7 @@
 -- What lies ahead of a train, one by one, and what it asks for (SUBSET-026, 3.8, 3.11 and 3.13; this project's
 -- profile). Places are centimetres, speeds metres per hour.
 use Rattle.std.specs.Prelude.{◌≡◌, ℕ, ℤ, ◌≤ℤ◌, ◌<ℤ◌, Bool, true, false, Option, None, Some, IsSomeAnd, List, Contains}
-use Rattle.restriction.specs.Covering.{covers}
+use Rattle.track_store.specs.Covering.{covers}
 use Rattle.areas.specs.Areas.{speed_in}
 use Rattle.brakes.specs.declared.brakes.Brakes.{Brakes}
 use Rattle.braking.specs.declared.target.Target.{Target}

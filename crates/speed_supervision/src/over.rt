@@ -2,8 +2,8 @@
 ghost use Rattle.std.specs.Prelude.{◌≡◌, ◌==◌, ◌&&◌, ◌≤ℤ◌, ℕ, ℤ, true, not, int_lt, Some, find, MatchOption, IfNone};
 ghost use Rattle.units.specs.Stretches.{Span};
 ghost use Rattle.areas.specs.Areas.{is_before, is_met, speed_in};
-ghost use Rattle.restriction.specs.Meeting.{meets};
-ghost use Rattle.restriction.specs.declared.restriction.Restriction.{Restriction as a_restriction};
+ghost use Rattle.track_store.specs.Meeting.{meets};
+ghost use Rattle.track_store.specs.declared.restriction.Restriction.{Restriction as a_restriction};
 ghost use Rattle.track_store.specs.Restrictions.{least_speed};
 ghost use Rattle.speed_profile.specs.Limit.{counts_at, limiting_value, bound_speed, limit_on};
 ghost use Rattle.speed_profile.specs.Track.{TrackSpeeds, speeds_along};

@@ -1,4 +1,4 @@
-//! A demand, as C gets it (`include/etcs_guard.h`).
+//! A demand, as C gets it (`etcs_guard.h`).
 ghost use Rattle.std.specs.Prelude.{◌≡◌};
 ghost use Rattle.std.specs.List.{slice_get};
 ghost use Rattle.track_guard.specs.Calls.{AnswersDemand, AnswersDemandIn, AnswersOne, action_number, demand_for_c, fault_number, finding_number, packet_number, place_bits, place_start, situation_by, sureness_number};

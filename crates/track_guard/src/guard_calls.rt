@@ -1,4 +1,4 @@
-//! A guard, as C keeps it (`include/etcs_guard.h`).
+//! A guard, as C keeps it (`etcs_guard.h`).
 ghost use Rattle.std.specs.Prelude.{◌≡◌, ◌==◌, Option};
 ghost use Rattle.std.specs.Option.{option_map};
 ghost use Rattle.track_guard.specs.Guarding.{acknowledged, empty};

@@ -1,4 +1,4 @@
-//! A situation, as C hands it in (`include/etcs_guard.h`).
+//! A situation, as C hands it in (`etcs_guard.h`).
 ghost use Rattle.std.specs.Prelude.{◌≡◌, Option, Some};
 ghost use Rattle.track_guard.specs.Calls.{direction_by, flag_by, mode_by_number, situation_by, situation_of as situation_of_parts};
 

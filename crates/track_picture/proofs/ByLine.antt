@@ -3,7 +3,7 @@ use Rattle.std.proofs.Common.{List, refl, ap}
 use Rattle.std.specs.Prelude.{reverse}
 use Rattle.mode_table.specs.declared.mode.Mode.{Mode}
 use Rattle.mode_table.specs.declared.statuses.Item.TheVariants as item
-use Rattle.restriction.specs.declared.restriction.Restriction.{Restriction}
+use Rattle.track_store.specs.declared.restriction.Restriction.{Restriction}
 use Rattle.track_picture.specs.Live.{Happening}
 use Rattle.track_picture.specs.Parts.{areas_or_none, mark_in, newest}
 use Rattle.track_picture.specs.Ending.{NoneAtPowerUp, EachByItsLine, LeavesNone, LeavesAll, ModesDeleteByTheTable}

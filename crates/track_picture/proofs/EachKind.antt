@@ -7,7 +7,7 @@ use Rattle.authority.specs.Entries as authority
 use Rattle.authority.specs.Entries.{Sight}
 use Rattle.linking.specs.declared.announcement.Announcement.{Announcement}
 use Rattle.national.specs.InForce as national
-use Rattle.restriction.specs.declared.restriction.Restriction.{Restriction}
+use Rattle.track_store.specs.declared.restriction.Restriction.{Restriction}
 use Rattle.speed_profile.specs.declared.reported.CategorySpeeds.{CategorySpeeds}
 use Rattle.track_store.specs.Facts as profiles
 use Rattle.track_picture.specs.Live.{TrackFact}

@@ -10,8 +10,8 @@ use Rattle.mode_table.specs.declared.mode.Mode.TheVariants as mode
 use Rattle.mode_table.specs.declared.statuses.Item.TheVariants as item
 use Rattle.packets.specs.declared.packet.Packet.{Packet}
 use Rattle.packets.specs.declared.packet.Packet.TheVariants as packets
-use Rattle.restriction.specs.declared.restriction.Restriction.{Restriction}
-use Rattle.restriction.specs.Covering.{is_ended_by, reaches_past}
+use Rattle.track_store.specs.declared.restriction.Restriction.{Restriction}
+use Rattle.track_store.specs.Covering.{is_ended_by, reaches_past}
 use Rattle.track_store.specs.Restrictions as track
 use Rattle.track_store.specs.Restrictions.{RestrictionEntry, InForce, ends, standing_but_for, standing}
 use Rattle.track_store.proofs.Standing.{filter-true}

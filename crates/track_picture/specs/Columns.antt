@@ -1,4 +1,4 @@
--- A scaffold for proofs alone: no public clause reaches it (`tools/definitions --check`). Part by part, what the
+-- A scaffold for proofs alone: no public clause reaches it (`tools/dev/definitions --check`). Part by part, what the
 -- happenings of a life bring it, as entries of the crates that keep these parts: their contracts speak of such lists,
 -- and so do the private functions here. The laws in `proofs/` say that each part is what is read off the facts that
 -- count (this project's profile). Distances and places are centimetres, moments milliseconds. Lists of entries and of

@@ -29,8 +29,8 @@ use Rattle.mode_table.specs.declared.statuses.Item.TheVariants as item
 use Rattle.mode_table.specs.Statuses.{status_on}
 use Rattle.national.specs.InForce as national
 use Rattle.odometry.specs.declared.fix.Fix.{Fix}
-use Rattle.restriction.specs.declared.restriction.Restriction.{Restriction}
-use Rattle.restriction.specs.Covering.{is_ended_by}
+use Rattle.track_store.specs.declared.restriction.Restriction.{Restriction}
+use Rattle.track_store.specs.Covering.{is_ended_by}
 use Rattle.speed_profile.specs.declared.reported.CategorySpeeds.{CategorySpeeds}
 use Rattle.speed_profile.specs.Reported.{gradient_fact, speed_fact}
 use Rattle.track_store.specs.Facts as profiles

@@ -17,8 +17,8 @@ use Rattle.linking.specs.Linking.{KnownLinks}
 use Rattle.national.specs.InForce as national
 use Rattle.national.specs.Values.{ValuesFor}
 use Rattle.odometry.specs.Place as odometry
-use Rattle.restriction.specs.declared.restriction.Restriction.{Restriction}
-use Rattle.restriction.specs.Covering.{reaches_past}
+use Rattle.track_store.specs.declared.restriction.Restriction.{Restriction}
+use Rattle.track_store.specs.Covering.{reaches_past}
 use Rattle.speed_profile.specs.declared.reported.CategorySpeeds.{CategorySpeeds}
 use Rattle.track_store.specs.Facts as profiles
 use Rattle.track_store.specs.Restrictions.{InForce}

@@ -5,9 +5,9 @@ use Rattle.std.proofs.lemmas.Int.{ints}
 use Rattle.std.specs.Int.{int_max, int_min}
 use Rattle.units.specs.Stretches.{Span}
 use Rattle.units.proofs.Gathering.{IsIn, least_is, over_at, in_over}
-use Rattle.restriction.specs.declared.restriction.Restriction.{Restriction}
-use Rattle.restriction.specs.Covering.{end_of, limits_at, train_start}
-use Rattle.restriction.specs.Meeting.{meets, from_where}
+use Rattle.track_store.specs.declared.restriction.Restriction.{Restriction}
+use Rattle.track_store.specs.Covering.{end_of, limits_at, train_start}
+use Rattle.track_store.specs.Meeting.{meets, from_where}
 use Rattle.track_store.specs.Restrictions.{InForce, speeds_at, least_speed}
 use Rattle.vars.specs.declared.restriction.TrainLengthDelay.{TrainLengthDelay}
 use Rattle.vars.specs.declared.restriction.TrainLengthDelay.TheVariants.{Applied, NotApplied}

@@ -6,8 +6,8 @@ use Rattle.std.specs.List.{list_any}
 use Rattle.std.proofs.lemmas.Int.{ints}
 use Rattle.std.proofs.lemmas.List.Folds.{list_any-append}
 use Rattle.std.proofs.lemmas.List.Elements.{filter-append}
-use Rattle.restriction.specs.declared.restriction.Restriction.{Restriction}
-use Rattle.restriction.specs.Covering.{reaches_past}
+use Rattle.track_store.specs.declared.restriction.Restriction.{Restriction}
+use Rattle.track_store.specs.Covering.{reaches_past}
 use Rattle.track_store.specs.Restrictions.{RestrictionEntry, InForce, in_force, standing, standing_but_for, ends, mark_of}
 use Rattle.track_store.specs.Restrictions.RestrictionEntry.{Restricted, Revoked, Forgotten}
 

@@ -1,3 +1,5 @@
+pub mod Covering
+pub mod Meeting
 pub mod Restrictions
 pub mod Profiles
 pub mod Facts

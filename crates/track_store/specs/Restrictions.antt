@@ -6,8 +6,8 @@ use Rattle.std.specs.Int.{int_max}
 use Rattle.std.specs.List.{list_any}
 use Rattle.units.specs.Limits.{outermost}
 use Rattle.units.specs.Stretches.{Span, over, least}
-use Rattle.restriction.specs.declared.restriction.Restriction.{Restriction}
-use Rattle.restriction.specs.Covering.{is_ended_by, reaches_past, limits_at}
+use Rattle.track_store.specs.declared.restriction.Restriction.{Restriction}
+use Rattle.track_store.specs.Covering.{is_ended_by, reaches_past, limits_at}
 
 -- what bears on restrictions: a restriction (packet 65), a revocation of those of a number (packet 66), a forgetting
 -- mark

@@ -8,6 +8,7 @@ mod fact_store;
 mod knowing;
 mod profile;
 mod reserving;
+mod restriction;
 mod restrictions;
 mod same;
 mod segment_store;

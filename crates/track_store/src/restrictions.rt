@@ -1,14 +1,14 @@
 //! A store of temporary speed restrictions: taken, revoked, forgotten, and the least speed of them.
 ghost use Rattle.std.specs.Prelude.{◌≡◌, ◌≤◌, ◌+◌, List, [], ◌∷◌, filter, not, min, max, if◌then◌else◌, IsOk, OnOk, OnErr, IfOk, vec_len, vec_capacity};
-ghost use Rattle.restriction.specs.Covering.{is_ended_by, reaches_past};
-ghost use Rattle.restriction.specs.Meeting.{meets};
+ghost use Rattle.track_store.specs.Covering.{is_ended_by, reaches_past};
+ghost use Rattle.track_store.specs.Meeting.{meets};
 ghost use Rattle.track_store.specs.Restrictions.{RestrictionEntry, in_force, least_speed, size_of};
 ghost use Rattle.track_store.specs.Restrictions.RestrictionEntry.{Restricted, Revoked, Forgotten};
 
 mod walk;
 
 use crate::reserving::reserve;
-use restriction::Restriction;
+use crate::restriction::Restriction;
 use std::alloc::Global;
 use std::marker::Model;
 use units::{Cm, Mph, NoMemory, Stretch};

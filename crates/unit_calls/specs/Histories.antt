@@ -3,7 +3,7 @@
 -- oldest first.
 
 -- Taken for granted: each call meets its contract (`OnHandle`, `Takes`, `Prepares`, ..), which is proved; and what the
--- head of `include/etcs_unit.h` says that the caller owes. He hands in a sector as it is on his medium when he hands it
+-- head of `etcs_unit.h` says that the caller owes. He hands in a sector as it is on his medium when he hands it
 -- in, carries out the requests in their order, as they are reported, says of none that it is done before it is, and
 -- nothing else writes there.
 

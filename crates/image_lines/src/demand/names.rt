@@ -1,4 +1,4 @@
-//! The names of values in JSON: those of `include/etcs_guard.h` (`docs/reference/json.md`).
+//! The names of values in JSON: those of `etcs_guard.h` (`docs/reference/json.md`).
 
 use serde::Serializer;
 use std::fmt;

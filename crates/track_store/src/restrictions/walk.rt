@@ -2,7 +2,7 @@
 ghost use Rattle.std.specs.Prelude.{◌≡◌};
 
 use crate::Restrictions;
-use restriction::Restriction;
+use crate::restriction::Restriction;
 use units::Cm;
 
 impl Restrictions {

@@ -2,7 +2,7 @@ use Rattle.std.proofs.Common.{◌≡◌, ◌≤ℤ◌, ◌<ℤ◌, ℤ, ◌^◌,
 use Rattle.std.specs.Prelude.{◌↔◌, ◌&&◌, not, int_lt, IsSome, Some, None}
 use Rattle.std.proofs.lemmas.Int.{ints, clamps}
 use Rattle.units.specs.Limits.{IsCm}
-use Rattle.restriction.specs.Covering.{end_of}
+use Rattle.track_store.specs.Covering.{end_of}
 use Rattle.speed_profile.specs.Ahead.{greatest_place}
 use Rattle.speed_profile.proofs.There.{at_place, target_there, no_target_passed, no_target_beyond}
 use Rattle.speed_profile.proofs.starts.first_target.Goals as goal

@@ -2,7 +2,7 @@ use Rattle.std.proofs.Common.{◌≡◌, true, ℤ, List, ◌+◌, drop, ap, sym
 use Rattle.std.specs.Prelude.{Option, Contains}
 use Rattle.std.proofs.lemmas.List.{at_drop_all}
 use Rattle.track_store.specs.Profiles.{listed}
-use Rattle.restriction.specs.declared.restriction.Restriction.{Restriction}
+use Rattle.track_store.specs.declared.restriction.Restriction.{Restriction}
 use Rattle.braking.specs.declared.target.Target.{Target}
 use Rattle.speed_profile.specs.Starts.{first_target}
 use Rattle.speed_supervision.specs.Targets.{journey_by, fits_all_on}

@@ -1,7 +1,7 @@
 use Rattle.std.proofs.Common.{◌≡◌, ℕ, ap, subst, ◌∙◌}
 use Rattle.std.specs.Prelude.{MatchOption, IfNone}
 use Rattle.units.specs.Stretches.{Span}
-use Rattle.restriction.specs.declared.restriction.Restriction.{Restriction}
+use Rattle.track_store.specs.declared.restriction.Restriction.{Restriction}
 use Rattle.track_store.specs.Restrictions.{InForce, Held, least_speed}
 use Rattle.track_picture.specs.History.{restrictions_of}
 use Rattle.mode_control.specs.History.{tracks}

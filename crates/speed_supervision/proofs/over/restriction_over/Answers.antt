@@ -2,7 +2,7 @@ use Rattle.std.proofs.Common.{◌≡◌, List, ap, ◌∙◌, arith}
 use Rattle.std.specs.Prelude.{find}
 use Rattle.std.specs.Int.{int_max}
 use Rattle.std.proofs.lemmas.Int.{ints}
-use Rattle.restriction.specs.declared.restriction.Restriction.{Restriction}
+use Rattle.track_store.specs.declared.restriction.Restriction.{Restriction}
 use Rattle.speed_supervision.proofs.Naming.{limits_so, restriction_reported, none_restricts}
 use Rattle.speed_supervision.proofs.over.restriction_over.Goals as goal
 

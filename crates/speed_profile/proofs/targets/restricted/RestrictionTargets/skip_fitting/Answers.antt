@@ -1,5 +1,5 @@
 use Rattle.std.proofs.Common.{◌≡◌, List, ◌∷◌, ◌++◌, true, refl, ap, sym, ◌∙◌}
-use Rattle.restriction.specs.declared.restriction.Restriction.{Restriction}
+use Rattle.track_store.specs.declared.restriction.Restriction.{Restriction}
 use Rattle.track_store.specs.Profiles.{listed}
 use Rattle.braking.specs.declared.target.Target.{Target}
 use Rattle.braking.specs.Braking.{fits}

@@ -1,5 +1,5 @@
 use Rattle.std.proofs.Common.{rules}
-use Rattle.restriction.proofs.restriction.Restriction.is_ended_by.Goals as goal
+use Rattle.track_store.proofs.restriction.Restriction.is_ended_by.Goals as goal
 
 pub returns-then-eq : goal.returns-then-eq
 returns-then-eq c = search rules

@@ -2,9 +2,9 @@ use Rattle.std.proofs.Common.{rules, ◌≡◌, ℤ, ◌∙◌, FitsSigned, to_z
 use Rattle.std.specs.Prelude.{not, int_lt}
 use lib.Signed.{le_z}
 use Rattle.std.proofs.lemmas.Int.{ints, clamps}
-use Rattle.restriction.specs.Meeting.{from_where, first_met, last_met}
-use Rattle.restriction.proofs.restriction.Restriction.meets.Goals as goal
-use Rattle.restriction.proofs.restriction.Restriction.meets.Goals.{in-Applied, in-NotApplied}
+use Rattle.track_store.specs.Meeting.{from_where, first_met, last_met}
+use Rattle.track_store.proofs.restriction.Restriction.meets.Goals as goal
+use Rattle.track_store.proofs.restriction.Restriction.meets.Goals.{in-Applied, in-NotApplied}
 
 -- the code's comparison
 le_is : (a b : ℤ) → FitsSigned w64 a → FitsSigned w64 b → le_z (to_z w64 (of_z w64 a)) (to_z w64 (of_z w64 b)) ≡ not (int_lt b a)

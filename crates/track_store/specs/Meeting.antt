@@ -4,8 +4,8 @@ use Rattle.std.specs.Int.{int_max, int_min}
 use Rattle.units.specs.Stretches.{Span}
 use Rattle.vars.specs.declared.restriction.TrainLengthDelay.{TrainLengthDelay}
 use Rattle.vars.specs.declared.restriction.TrainLengthDelay.TheVariants.{Applied, NotApplied}
-use Rattle.restriction.specs.declared.restriction.Restriction.{Restriction}
-use Rattle.restriction.specs.Covering.{end_of}
+use Rattle.track_store.specs.declared.restriction.Restriction.{Restriction}
+use Rattle.track_store.specs.Covering.{end_of}
 
 -- from where on a restriction limits a train, where no track before a first centimetre counts
 abbrev pub from_where : ℤ → Span → TrainLengthDelay → ℤ

@@ -4,7 +4,7 @@ use Rattle.std.specs.Prelude.{ℕ, ℤ, pos, ◌+ℤ◌, Bool, not, ◌==◌, �
 use Rattle.units.specs.Stretches.{Span}
 use Rattle.vars.specs.declared.restriction.TrainLengthDelay.{TrainLengthDelay}
 use Rattle.vars.specs.declared.restriction.TrainLengthDelay.TheVariants.{Applied, NotApplied}
-use Rattle.restriction.specs.declared.restriction.Restriction.{Restriction}
+use Rattle.track_store.specs.declared.restriction.Restriction.{Restriction}
 
 -- a later restriction or revocation of a number ends it; number 255 is never replaced nor revoked
 abbrev pub is_ended_by : ℕ → Restriction → Bool

@@ -21,8 +21,8 @@ pub struct Restriction {
 }
 
 impl Restriction {
-    ghost use Rattle.restriction.specs.Covering.{end_of, is_ended_by, reaches_past};
-    ghost use Rattle.restriction.specs.Meeting.{meets};
+    ghost use Rattle.track_store.specs.Covering.{end_of, is_ended_by, reaches_past};
+    ghost use Rattle.track_store.specs.Meeting.{meets};
 
     // The first centimetre after it.
     fn end(&self) -> i64

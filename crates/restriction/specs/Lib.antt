@@ -1,2 +1,0 @@
-pub mod Covering
-pub mod Meeting

@@ -7,11 +7,13 @@ mod event_lines;
 mod examined;
 mod given;
 mod images;
+mod packet_names;
 mod program;
 mod progress;
 mod run;
 mod running;
 mod status;
+mod telegrams;
 mod why;
 
 use std::io::IsTerminal;

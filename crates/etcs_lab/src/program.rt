@@ -2,12 +2,13 @@
 
 use crate::event_lines::events_reported;
 use crate::examined::{checked, examined, replayed};
+use crate::packet_names::packets_reported;
 use crate::run::played;
 use crate::status::{Status, answered_args};
+use crate::telegrams::decode_reported;
 use crate::why::why_reported;
 use command_line::{LabCommand, parse_lab};
 use lab_play::{PlayArgs, play_scenarios};
-use lab_telegrams::{decode_reported, packets_reported};
 use lab_why::Options;
 use std::fs::File;
 use std::io::Write;

@@ -1,6 +1,6 @@
 //! The command `decode`.
 
-use command_line::lab_status::{Status, fail, no_memory, unwritten};
+use crate::status::{Status, fail, no_memory, unwritten};
 use decoding::decode_text;
 use hex::FromHexError;
 use image_lines::{Decoded, JsonLines, LineSink, decoded_of};
@@ -54,7 +54,7 @@ fn print_lines<W: Write>(alloc: Global, digits: &str, out: &mut W) -> Result<boo
 }
 
 /// Writes what digits carry, in lines as `etcs decode` or as JSON, and answers the status.
-pub fn decode_reported<R: AllocGlobal + Eprint, W: Write>(
+pub(crate) fn decode_reported<R: AllocGlobal + Eprint, W: Write>(
     rt: &R,
     digits: &str,
     json: bool,

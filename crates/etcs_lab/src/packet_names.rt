@@ -1,7 +1,7 @@
 //! The command `packets`.
 
+use crate::status::{Status, no_memory, reported};
 use crate::telegrams::bytes_of;
-use command_line::lab_status::{Status, no_memory, reported};
 use packet_uses::{
     Fate, ReportedPacket, name_pieces, never_used_packets, number_pieces, place_pieces, why_piece,
 };
@@ -266,7 +266,7 @@ fn write_all<W: Write>(
 
 /// Reports the packets of a telegram by name, each with its fields and why no mode uses it, in lines or as JSON, and answers
 /// the status.
-pub fn packets_reported<R: AllocGlobal + Eprint, W: Write>(
+pub(crate) fn packets_reported<R: AllocGlobal + Eprint, W: Write>(
     rt: &R,
     digits: &str,
     form: Form,

@@ -1,4 +1,7 @@
 //! The balise groups that an event closed.
+ghost use Rattle.std.specs.Prelude.{[]};
+ghost use Rattle.reasons.specs.Closings.{AreReported};
+
 use mode_table::Mode;
 use track_picture::Closings;
 
@@ -17,4 +20,17 @@ impl GroupsReport {
         mode: Mode::StandBy,
         closings: Closings::NONE,
     };
+
+    /// No group more, in this mode. A group that isn't there isn't written either.
+    pub(crate) fn clear(&mut self, mode: Mode)
+        ensures { AreReported mode [] self.new }
+    {
+        self.mode = mode;
+        if self.closings.ended.is_some() {
+            self.closings.ended = None;
+        }
+        if self.closings.whole.is_some() {
+            self.closings.whole = None;
+        }
+    }
 }

@@ -1,5 +1,5 @@
 //! A life that is run again, with why it brakes.
-ghost use Rattle.std.specs.Prelude.{◌≡◌, IfOk, OnOk, OnErr};
+ghost use Rattle.std.specs.Prelude.{◌≡◌, true, [], IfOk, OnOk, OnErr};
 ghost use Rattle.events.specs.declared.input.Event.TheVariants.{PowerUp};
 ghost use Rattle.kernel.specs.Brake.{causes_of};
 ghost use Rattle.kernel.specs.Causes.{marked};
@@ -11,16 +11,16 @@ ghost use Rattle.kernel.specs.Trips.{later_trip};
 ghost use Rattle.mode_control.specs.Life.{Life};
 ghost use Rattle.speed_supervision.specs.Causes.{IsLimitCause};
 ghost use Rattle.track_picture.specs.Stores.{segment_stores};
-ghost use Rattle.reasons.specs.Closings.{AreReported, AreGroups, mode_before};
+ghost use Rattle.reasons.specs.Closings.{AreGroups, mode_before};
 ghost use Rattle.reasons.specs.Runs.{runs_of, later_causes};
 ghost use Rattle.reasons.specs.Trips.{trip_of};
 
 use crate::closings::GroupsReport;
 use crate::runs::Runs;
 use crate::trips::{TripReport, trip_before, trip_held};
-use events::{Event, Kept, Output};
+use events::{Event, Input, Kept, Output};
 use kernel::{BrakeCause, BrakeCauses, State, TripCause};
-use mode_table::Cold;
+use mode_table::{Cold, Mode};
 use speed_supervision::LimitCause;
 use std::alloc::Global;
 use std::marker::Model;
@@ -54,7 +54,7 @@ fn causes_in(state: &State) -> BrakeCauses
 }
 
 impl Reasoning {
-    ghost use Rattle.reasons.specs.Reported.{Reasons};
+    ghost use Rattle.reasons.specs.Reported.{Reasons, IsApplied};
 
     /// Begins a life after what was kept, and answers its power-up. It takes no memory.
     pub fn begin(alloc: Global, kept: &Kept, cold: Cold) -> (Reasoning, Output)
@@ -77,7 +77,9 @@ impl Reasoning {
         (reasoning, output)
     }
 
-    // Why an event enters Trip, as the next one.
+    // Why an event enters Trip, as the next one. It is worked out of line, so that in other modes no memory is cleared for
+    // a copy of what the kernel knows.
+    #[inline(never)]
     fn trip_by(&self, alloc: Global, event: &Event) -> Result<Option<TripCause>, NoMemory>
         ensures { IfOk result (λ cause. (story : Story) → Reasons story self.now
             → cause ≡ later_trip (past_at story) event.now) }
@@ -88,18 +90,53 @@ impl Reasoning {
         }
     }
 
-    // The groups that an event closes, as the next one.
-    fn groups_by(&self, alloc: Global, event: &Event) -> Result<GroupsReport, NoMemory>
-        ensures { IfOk result (λ reported. (story : Story) → Reasons story self.now
-            → AreReported (mode_before (past_at story) event.now) (closings_after (past_at story) event.now) reported) }
+    // Whether an event closes no balise group, as the next one: a telegram may, and a reading while one is being read.
+    fn closes_none(&self, event: &Event) -> bool
+        ensures { (story : Story) → Reasons story self.now → result ≡ true → closings_after (past_at story) event.now ≡ [] }
     {
         match event {
-            Event::PowerUp(_) => Ok(GroupsReport::NONE),
-            Event::Input(_) => Ok(GroupsReport {
-                mode: self.output().mode,
-                closings: self.state.closings_by(alloc, event)?,
-            }),
+            Event::Input(Input::Telegram(_)) => false,
+            Event::Input(Input::Odometer(_)) => self.state.track().group_being_read().is_none(),
+            Event::Input(Input::Clock(_) | Input::Driver(_)) | Event::PowerUp(_) => true,
         }
+    }
+
+    // The mode before an event, as the next one; a life begins in Stand By.
+    fn mode_before(&self, event: &Event) -> Mode
+        ensures { (story : Story) → Reasons story self.now → result ≡ mode_before (past_at story) event.now }
+    {
+        match event {
+            Event::PowerUp(_) => Mode::StandBy,
+            Event::Input(_) => self.output().mode,
+        }
+    }
+
+    // The kernel's answer to an event, as the next one, and the groups that it closes. They are worked out of line, so
+    // that an event that closes none clears no memory for them.
+    #[inline(never)]
+    fn apply_closing(&mut self, alloc: Global, event: &Event) -> Result<Output, NoMemory>
+        ensures refused { OnErr result (self.new ≡ self.old) }
+        ensures applied { (story : Story) → Reasons story self.old → IfOk result (λ output. IsApplied story event.now self.old self.new output) }
+    {
+        let mode = self.mode_before(event);
+        let closings = self.state.closings_by(alloc, event)?;
+        let output = self.state.apply(alloc, event)?;
+        self.groups = GroupsReport { mode, closings };
+        Ok(output)
+    }
+
+    // The same of any event.
+    fn apply(&mut self, alloc: Global, event: &Event) -> Result<Output, NoMemory>
+        ensures refused { OnErr result (self.new ≡ self.old) }
+        ensures applied { (story : Story) → Reasons story self.old → IfOk result (λ output. IsApplied story event.now self.old self.new output) }
+    {
+        if !self.closes_none(event) {
+            return self.apply_closing(alloc, event);
+        }
+        let mode = self.mode_before(event);
+        let output = self.state.apply(alloc, event)?;
+        self.groups.clear(mode);
+        Ok(output)
     }
 
     /// Runs one event more, and answers it. NoMemory where memory is refused; then nothing changes.
@@ -112,10 +149,7 @@ impl Reasoning {
         let Ok(entered) = self.trip_by(alloc, event) else {
             return Err(NoMemory);
         };
-        let Ok(groups) = self.groups_by(alloc, event) else {
-            return Err(NoMemory);
-        };
-        let Ok(output) = self.state.apply(alloc, event) else {
+        let Ok(output) = self.apply(alloc, event) else {
             return Err(NoMemory);
         };
         let causes = causes_in(&self.state);
@@ -124,7 +158,6 @@ impl Reasoning {
         let trip = trip_held(causes.holds(BrakeCause::OwesTrip), entered, before, number);
         self.runs = self.runs.after(event, &causes, number);
         self.trip = trip;
-        self.groups = groups;
         self.next = number.saturating_add(1);
         Ok(output)
     }

@@ -1,5 +1,5 @@
 //! The fields of a header and of a packet, taken into a list.
-ghost use Rattle.std.specs.Prelude.{◌≡◌, ◌≤◌};
+ghost use Rattle.std.specs.Prelude.{◌≡◌, ◌≤◌, []};
 ghost use Rattle.packets.specs.Packets.{length_of};
 ghost use Rattle.decoding.specs.Fields.{header_fields, packet_fields};
 
@@ -67,29 +67,34 @@ impl FieldSink for FieldList {
     }
 }
 
-/// The fields of a header.
-pub fn fields_of_header(header: &Header) -> FieldList
-    ensures { result.fields.items ≡ header_fields header.now }
-{
-    let mut list = FieldList {
-        fields: ArrayVec::new(),
-    };
-    match header.fields(&mut list) {
-        Ok(()) => {}
+impl FieldList {
+    /// No field.
+    pub fn new() -> FieldList
+        ensures { result.fields.items ≡ [] }
+    {
+        FieldList {
+            fields: ArrayVec::new(),
+        }
     }
-    list
 }
 
-/// The fields of a packet, NID_PACKET first.
-pub fn fields_of_packet(packet: &Packet<'_>) -> FieldList
-    requires { length_of packet.now ≤ 832 }
-    ensures { result.fields.items ≡ packet_fields packet.now }
+/// Puts the fields of a header in place of those in a list.
+pub fn header_into(header: &Header, list: &mut FieldList)
+    ensures { list.new.fields.items ≡ header_fields header.now }
 {
-    let mut list = FieldList {
-        fields: ArrayVec::new(),
-    };
-    match hand_packet(packet, packet.length(), &mut list) {
+    list.fields.clear();
+    match header.fields(list) {
         Ok(()) => {}
     }
-    list
+}
+
+/// Puts the fields of a packet in place of those in a list, NID_PACKET first.
+pub fn fields_into(packet: &Packet<'_>, list: &mut FieldList)
+    requires { length_of packet.now ≤ 832 }
+    ensures { list.new.fields.items ≡ packet_fields packet.now }
+{
+    list.fields.clear();
+    match hand_packet(packet, packet.length(), list) {
+        Ok(()) => {}
+    }
 }

@@ -5,5 +5,5 @@ mod fields;
 mod report;
 mod text;
 
-pub use fields::{FieldList, FieldValue, fields_of_header, fields_of_packet};
+pub use fields::{FieldList, FieldValue, fields_into, header_into};
 pub use text::decode_text;

@@ -5,7 +5,7 @@ ghost use Rattle.packets.specs.Packets.{length_of};
 ghost use Rattle.telegram.specs.Sequences.{length_of_all};
 ghost use Rattle.decoding.specs.Lines.{field_text, header_line, body_text, packet_line, end_line, telegram_lines};
 
-use crate::fields::{FieldValue, fields_of_header, fields_of_packet};
+use crate::fields::{FieldList, FieldValue, fields_into, header_into};
 use packets::Packet;
 use std::io;
 use std::io::Write;
@@ -28,10 +28,10 @@ fn write_fields<W: Write>(fields: &[FieldValue], out: &mut W) -> io::Result<()>
     Ok(())
 }
 
-fn write_header<W: Write>(header: &Header, out: &mut W) -> io::Result<()>
+fn write_header<W: Write>(header: &Header, list: &mut FieldList, out: &mut W) -> io::Result<()>
     ensures { OnOk result (Appends (W.contents out.old) (W.contents out.new) (header_line header.now)) }
 {
-    let list = fields_of_header(header);
+    header_into(header, list);
     out.write_all(b"telegram")?;
     write_fields(list.fields.as_slice(), out)?;
     out.write_all(b"\n")
@@ -56,26 +56,30 @@ fn write_body<W: Write>(packet: &Packet<'_>, out: &mut W) -> io::Result<()>
     }
 }
 
-fn write_packet<W: Write>(packet: &Packet<'_>, out: &mut W) -> io::Result<()>
+fn write_packet<W: Write>(packet: &Packet<'_>, list: &mut FieldList, out: &mut W) -> io::Result<()>
     requires { length_of packet.now ≤ 832 }
     ensures { OnOk result (Appends (W.contents out.old) (W.contents out.new) (packet_line packet.now)) }
 {
     let number = packet.number().get();
-    let list = fields_of_packet(packet);
+    fields_into(packet, list);
     write!(out, "packet {number}")?;
     write_others(list.fields.as_slice(), out)?;
     write_body(packet, out)?;
     out.write_all(b"\n")
 }
 
-fn write_packets<W: Write>(packets: &[Packet<'_>], out: &mut W) -> io::Result<()>
+fn write_packets<W: Write>(
+    packets: &[Packet<'_>],
+    list: &mut FieldList,
+    out: &mut W,
+) -> io::Result<()>
     requires { length_of_all packets.now ≤ 832 }
     ensures { OnOk result (Appends (W.contents out.old) (W.contents out.new) (flat_map packet_line packets.now)) }
 {
     match packets.split_first() {
         Some((packet, others)) => {
-            write_packet(packet, out)?;
-            write_packets(others, out)
+            write_packet(packet, list, out)?;
+            write_packets(others, list, out)
         }
         None => Ok(()),
     }
@@ -95,7 +99,8 @@ pub fn print_telegram<W: Write>(telegram: &Telegram<'_>, out: &mut W) -> io::Res
     requires { length_of_all telegram.now.packets.items ≤ 832 }
     ensures { OnOk result (Appends (W.contents out.old) (W.contents out.new) (telegram_lines telegram.now)) }
 {
-    write_header(&telegram.header, out)?;
-    write_packets(telegram.packets.as_slice(), out)?;
+    let mut list = FieldList::new();
+    write_header(&telegram.header, &mut list, out)?;
+    write_packets(telegram.packets.as_slice(), &mut list, out)?;
     write_end(telegram, out)
 }

@@ -3,7 +3,7 @@
 
 use crate::hex_text::HexText;
 use bits::{BitWriter, Run};
-use decoding::{FieldValue, fields_of_header, fields_of_packet};
+use decoding::{FieldList, FieldValue, fields_into, header_into};
 use packets::{Packet, TELEGRAM_BYTES};
 use serde::{Serialize, Serializer};
 use std::alloc::{AllocError, Global};
@@ -115,9 +115,15 @@ fn body_bytes(alloc: Global, run: &Run<'_>) -> Result<Vec<u8>, AllocError> {
     bytes[..count.min(TELEGRAM_BYTES)].to_vec(alloc)
 }
 
-fn packet_object(alloc: Global, packet: &Packet<'_>) -> Result<PacketObject, AllocError> {
+// Its fields pass through the list.
+fn packet_object(
+    alloc: Global,
+    packet: &Packet<'_>,
+    list: &mut FieldList,
+) -> Result<PacketObject, AllocError> {
     let fields = if packet.length() <= MOST_BITS {
-        fields_of_packet(packet).fields.as_slice().to_vec(alloc)?
+        fields_into(packet, list);
+        list.fields.as_slice().to_vec(alloc)?
     } else {
         Vec::new(alloc)
     };
@@ -137,13 +143,12 @@ fn packet_object(alloc: Global, packet: &Packet<'_>) -> Result<PacketObject, All
 }
 
 fn telegram_object(alloc: Global, telegram: &Telegram<'_>) -> Result<TelegramObject, AllocError> {
-    let header = fields_of_header(&telegram.header)
-        .fields
-        .as_slice()
-        .to_vec(alloc)?;
+    let mut list = FieldList::new();
+    header_into(&telegram.header, &mut list);
+    let header = list.fields.as_slice().to_vec(alloc)?;
     let mut packets = Vec::new(alloc);
     for packet in telegram.packets.as_slice() {
-        packets.push(packet_object(alloc, packet)?)?;
+        packets.push(packet_object(alloc, packet, &mut list)?)?;
     }
     Ok(TelegramObject {
         header,

@@ -3,19 +3,18 @@
 # `etcs run`, also with cuts of power, and with the library for C; journal images, compared with `etcs_lab`, also altered ones;
 # parsed telegrams; hostile files and texts; that it connects to nobody; contrast and names.
 #
-#     tests/page.sh [ETCS_LAB ETCS [PAGE [NAME..]]]    test other programs, an existing page, only these checks
+#     tests/page.sh [PAGE [NAME..]]    test an existing page, only these checks
 #
-# GAKNIFUR_ETCS_UNIT names an existing library for C. MORE=10 tries ten times as many altered and forged images.
+# ETCS and ETCS_LAB name other programs, GAKNIFUR_ETCS_UNIT an existing library for C. MORE=10 tries ten times as many altered and forged images.
 . "$(dirname "$(readlink -f -- "$0")")/both_programs" || exit 1
 cd "$top" || exit 1
-export GAKNIFUR_ETCS_LAB=$lab GAKNIFUR_ETCS=$etcs
 folder=$(mktemp -d) || exit 1
 trap 'rm -rf "$folder"' EXIT
 if [ -z "$GAKNIFUR_ETCS_UNIT" ]; then
     tools/library "$folder/prefix" >"$folder/said" 2>&1 || { cat "$folder/said"; echo "page: the library isn't built"; exit 1; }
     export GAKNIFUR_ETCS_UNIT=$folder/prefix/lib/libetcs_unit.so
 fi
-page=${3:-}
+page=${1:-}
 if [ -z "$page" ]; then
     page=$folder/gaknifur.html
     printf 'a letter\n' >"$page"
@@ -23,4 +22,4 @@ if [ -z "$page" ]; then
     [ "$(cat "$page")" = "a letter" ] || { echo "page: the letter is gone"; exit 1; }
     tools/page --force "$page" >"$folder/said" 2>&1 || { cat "$folder/said"; exit 1; }
 fi
-/usr/bin/python3 -I -B tests/page/check.py "$page" "${@:4}"
+/usr/bin/python3 -I -B tests/page/check.py "$page" "${@:2}"

@@ -106,7 +106,7 @@ ends 0 "an altered program" "not proved: the program is not of a proved build" i
 build='eval gcc -std=c99 -Wall -Werror $(pkg-config --cflags etcs_unit) "\"\$1\"" $(pkg-config --libs etcs_unit) -o brake'
 ends 0 "a program in C" "" inside env "PKG_CONFIG_PATH=$lib/pkgconfig" sh -c "$build" sh "$root/usr/share/gaknifur/examples/embedding/brake.c"
 ends 0 "a program in C" "the train stands after 77000 ms" inside ./brake image.c
-ends 0 "its library" "libetcs_unit.so.$(sed -n 's/^#define ETCS_UNIT_ABI \([0-9]*\)$/\1/p' include/etcs_unit.h)" readelf -d "$room/work/brake"
+ends 0 "its library" "libetcs_unit.so.$(sed -n 's/^#define ETCS_UNIT_ABI \([0-9]*\)$/\1/p' c/include/etcs_unit.h)" readelf -d "$room/work/brake"
 mkdir "$room/elsewhere" && tar -C "$room/elsewhere" -xzf "$room/one/gaknifur-$version-x86_64-linux.tar.gz" || fails "the tarball can't be unpacked"
 ends 0 "the tarball" "whole" env PATH=/usr/bin:/bin "$room/elsewhere/gaknifur-$version/bin/lab" check "$room/work/image"
 [ "$tried" -ge 30 ] || fails "only $tried tries"

@@ -1,7 +1,7 @@
 #!/bin/bash
 # Test the rows of the crates, by a program that is compiled for them from the crates' sources, unproved (rows/tried). Each module of
 # rows/ converts its rows to numbers, the program answers all of them in one run, and each module converts the replies back and
-# compares them with the wanted answers. The rows are the hand-written ones (rows/*.row) and those that plain/make_rows.py makes.
+# compares them with the wanted answers. The rows are the hand-written ones (rows/*.row) and those that model/make_rows.py makes.
 # Fails where an answer differs or is missing, the sources don't compile, a run doesn't end, fewer rows were tried than are listed
 # below, or a question is too long for the program. Then the requests for memory of some rows are refused, each in turn
 # (hostile/refused_calls.py).
@@ -18,7 +18,7 @@ cd "$(dirname "$(readlink -f -- "$0")")/rows" || exit 1
 made=$(mktemp -d) || exit 1
 trap 'rm -rf "$made"' EXIT
 mkdir "$made/cases" "$made/answers" || exit 1
-[ -n "$ROWS" ] || { ROWS=$made/rows && python3 ../plain/make_rows.py "$ROWS" ${SEED:-} >/dev/null; } || exit 1
+[ -n "$ROWS" ] || { ROWS=$made/rows && python3 ../model/make_rows.py "$ROWS" ${SEED:-} >/dev/null; } || exit 1
 ROWS=$(realpath "$ROWS") || exit 1
 export ROWS
 modules=(test_decode test_parts test_onboard test_kernel test_track test_guard)

@@ -1,7 +1,7 @@
 /* A minimal unit that speaks the protocol of docs/howto/oracle.md, in C, like unit.py in Python: it chooses a level, and brakes.
  *
  *     gcc -std=c99 examples/oracle/least.c -o least
- *     ./lab test suites --against ./least
+ *     ./lab test examples/suites --against ./least
  *
  * It reads only the members of an event that it needs, by their names: the tester writes no space between them. */
 #include <stdio.h>

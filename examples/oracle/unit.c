@@ -2,7 +2,7 @@
  * unit is that of etcs_unit.h, with its journal in memory; replace its calls with those of your own unit.
  *
  *     gcc -std=c99 -I PREFIX/include examples/oracle/unit.c PREFIX/lib/libetcs_unit.a -o unit
- *     ./lab test suites --against ./unit
+ *     ./lab test examples/suites --against ./unit
  */
 #include "etcs_image.h"
 

@@ -1,7 +1,7 @@
 #!/usr/bin/python3
 """The least unit that speaks the protocol of docs/howto/oracle.md, of Python's own modules alone: it stands, and brakes.
 
-    ./lab test suites --against examples/oracle/unit.py
+    ./lab test examples/suites --against examples/oracle/unit.py
 
 It knows Stand By, the identity and the level, and says its mode, its level and its brake; it never starts. So it
 differs from the proved unit where a train is made ready. Where `Unit` stands, a maker puts his own.

@@ -1,4 +1,4 @@
-"""The plain kernel of tests/plain with the calls of `gaknifur.unit.Unit`: it keeps no journal, and needs no library."""
+"""The plain kernel of tests/model with the calls of `gaknifur.unit.Unit`: it keeps no journal, and needs no library."""
 import importlib
 import sys
 from pathlib import Path
@@ -7,7 +7,7 @@ from typing import Any
 from gaknifur.simulation.driving import MODES
 from gaknifur.unit import Action, Brake, Indication, Level, Output, TrainData
 
-sys.path.append(str(Path(__file__).resolve().parents[2] / "tests/plain"))
+sys.path.append(str(Path(__file__).resolve().parents[2] / "tests/model"))
 CODES = {code: mode for mode, code in MODES.items()}
 WITH_VALUE = ("choose-level-", "confirm-", "acknowledge-")
 

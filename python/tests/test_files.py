@@ -202,7 +202,7 @@ class Commands(Room):
         (self.room / "kept").mkdir()
         (self.room / "link").symlink_to("nowhere")
         for name in ("kept", "link"):
-            errors, words = io.StringIO(), ["search", str(TOP / "suites/safety_laws.search.yaml"), "--examples", "1"]
+            errors, words = io.StringIO(), ["search", str(TOP / "examples/suites/safety_laws.search.yaml"), "--examples", "1"]
             with contextlib.redirect_stderr(errors), contextlib.redirect_stdout(io.StringIO()):
                 self.assertEqual(main([*words, "--keep", str(self.room / name)]), REFUSED, words)
             self.assertIn(f"{name}: already exists; name a new folder", errors.getvalue())

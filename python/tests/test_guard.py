@@ -16,14 +16,14 @@ from gaknifur.unit import Brake, Mode, Refused
 
 from .samples import journal, record
 
-HEADER = Path(__file__).resolve().parents[2] / "include/etcs_guard.h"
+HEADER = Path(__file__).resolve().parents[2] / "c/include/etcs_guard.h"
 STOP = bytes.fromhex("90007f8020016260 0c3fc0".replace(" ", ""))
 """A packet 137 for both directions with Q_SRSTOP 0, in a telegram of one balise, as in examples/embedding/guard.c."""
 NO_TELEGRAM = b""
 
 
 class Names(unittest.TestCase):
-    """Along with the header, as it reads without `tools/bindings`."""
+    """Along with the header, as it reads without `tools/dev/bindings`."""
 
     def test_enums(self) -> None:
         enums: list[type[enum.IntEnum]] = [GuardPolicy, Demanded, Finding, Sureness]

@@ -28,7 +28,7 @@ class Results(unittest.TestCase):
     """What is printed of a property that no record breaks."""
 
     def test_few_records_of_random_scenarios_are_thin(self) -> None:
-        one = properties.read(Path(__file__).parents[2] / "suites/safety_laws.search.yaml").properties[0]
+        one = properties.read(Path(__file__).parents[2] / "examples/suites/safety_laws.search.yaml").properties[0]
         for judged, where, wanted in ((100, " of 60 scenarios", "holds"), (99, " of 60 scenarios", "thin"), (0, " of 60 scenarios", "unjudged"),
                                       (1, "", "holds"), (0, "", "unjudged")):
             with contextlib.redirect_stdout(io.StringIO()) as printed:
@@ -40,7 +40,7 @@ class TestCases(unittest.TestCase):
     """A file of test cases in place of properties."""
 
     def test_lab_test_is_named(self) -> None:
-        path = Path(__file__).parents[2] / "suites/power_up_and_desk.case.yaml"
+        path = Path(__file__).parents[2] / "examples/suites/power_up_and_desk.case.yaml"
         with self.assertRaisesRegex(Failed, r"power_up_and_desk\.case\.yaml:2:1: this is a test case; `lab test` runs it$"):
             properties.read(path)
 

@@ -21,7 +21,7 @@ from gaknifur.unit import (Acknowledgement, Action, Brake, ClosedGroup, Cold, Fi
                            TrainData, Unit, UnitDriver, UnitWhy, Waiting)
 from gaknifur.units._header import Direction, Fault, Proof, RequestKind, Source, StatusKind, UnusedReason
 
-INCLUDE = Path(__file__).resolve().parents[2] / "include"
+INCLUDE = Path(__file__).resolve().parents[2] / "c/include"
 HEADER = INCLUDE / "etcs_unit.h"
 SECTOR = units.SECTOR
 TRAIN = TrainData(20_000, 160_000, 70, 1_000, 15)
@@ -29,7 +29,7 @@ BEFORE = Output(0, Mode.STAND_BY, Level.INVALID, Brake.EMERGENCY, 0, Indication.
 
 
 class Names(unittest.TestCase):
-    """Along with the headers, as they read without `tools/bindings`."""
+    """Along with the headers, as they read without `tools/dev/bindings`."""
 
     def test_enums(self) -> None:
         enums: list[type[enum.IntEnum | enum.IntFlag]] = [

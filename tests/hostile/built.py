@@ -10,7 +10,7 @@ HERE = Path(__file__).resolve().parent
 TOP = HERE.parents[1]
 PROGRAM = os.environ.get("ETCS") or str(TOP / "crates/etcs/out/etcs")
 
-sys.path[:0] = [str(TOP / "tests/plain"), str(TOP / "tests")]
+sys.path[:0] = [str(TOP / "tests/model"), str(TOP / "tests")]
 
 SECTOR = 512
 SLOT = 6 * SECTOR

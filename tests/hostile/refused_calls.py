@@ -20,7 +20,7 @@ from collections import Counter
 from pathlib import Path
 
 HERE = Path(__file__).resolve().parent
-sys.path[:0] = [str(HERE.parent), str(HERE.parent / "plain"), str(HERE.parent / "rows")]
+sys.path[:0] = [str(HERE.parent), str(HERE.parent / "model"), str(HERE.parent / "rows")]
 
 import kernel_words  # noqa: E402
 import onboard_lives  # noqa: E402

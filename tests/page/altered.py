@@ -10,7 +10,7 @@ from braked import compare_package
 from briefs import compare_brief
 from browsing import Browser
 
-sys.path.append(str(Path(__file__).resolve().parents[1] / "lab_package"))
+sys.path.append(str(Path(__file__).resolve().parents[1] / "lab"))
 from verdict_rows import altered_images, wanted  # noqa: E402
 
 ALTERED = 60 * int(os.environ.get("MORE", "1"))

@@ -12,7 +12,7 @@ from desks import TOP
 from gaknifur import program
 from gaknifur.testing import telegrams
 
-sys.path.append(str(TOP / "tests/plain"))
+sys.path.append(str(TOP / "tests/model"))
 import decoded  # noqa: E402
 import track_packets  # noqa: E402
 
@@ -67,7 +67,7 @@ def texts() -> list[str]:
             found.append(value)
         for one in value.values() if isinstance(value, dict) else value if isinstance(value, list) else ():
             walk(one)
-    for path in sorted([*(TOP / "suites").glob("*.yaml"), *(TOP / "page/tracks").glob("*.yaml")]):
+    for path in sorted([*(TOP / "examples/suites").glob("*.yaml"), *(TOP / "browser/tracks").glob("*.yaml")]):
         for document in yaml.safe_load_all(path.read_text(encoding="utf-8")):
             walk(document)
     return sorted(set(found))

@@ -19,7 +19,7 @@ WRONG = (("length", "abc", "enter-train", "Length in m: a number with up to 2 de
          ("running", "", "enter-running", "Running number: a whole number from 0 to 99,999,999."), ("running", "100000000", "enter-running", "Running number: a whole number"),
          ("running", "1.5", "enter-running", "Running number"), ("running", "0x10", "enter-running", "Running number"),
          ("identity", "", "enter-identity", "The identity has 1 to 16 letters"), ("identity", "Zug ü", "enter-identity", "The identity has 1 to 16 letters"))
-"""A field, a wrong entry, the button, and the limits by include/etcs_unit.h, in the unit of the field."""
+"""A field, a wrong entry, the button, and the limits by c/include/etcs_unit.h, in the unit of the field."""
 
 
 def steps(browser: Browser, _page: Path, _folder: Path) -> int:

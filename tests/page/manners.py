@@ -107,7 +107,7 @@ def connections(browser: Browser, page: Path, folder: Path) -> int:
 def sources(_browser: Browser, _page: Path, _folder: Path) -> int:
     """The sources import nothing from outside, and name no call that reaches out, stores something or makes markup."""
     count = 0
-    for path in sorted((TOP / "page").glob("*.ts")):
+    for path in sorted((TOP / "browser").glob("*.ts")):
         text = path.read_text(encoding="utf-8")
         code = re.sub(r"//.*|/\*(?s:.*?)\*/", "", text)
         assert not FORBIDDEN.search(code), (path, FORBIDDEN.search(code))

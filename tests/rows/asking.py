@@ -2,7 +2,7 @@
 
 A file of rows holds each question with its wanted answer after it: `QUESTION: ANSWER`, or `QUESTION:` and lines that
 are indented. Empty lines, and lines that begin with `#`, are comments. A question can stand for several with the same
-answer, and a line for several (tests/plain/row_lines.py).
+answer, and a line for several (tests/model/row_lines.py).
 
 Each module `test_..` takes these arguments:
 
@@ -10,7 +10,7 @@ Each module `test_..` takes these arguments:
     test_parts.py --ask FOLDER        only write the questions into FOLDER, as cases of the program
     test_parts.py --compare FOLDER    compare the answers to these cases in FOLDER
 
-The rows are those of the folder that the variable ROWS names, which `tests/plain/make_rows.py` makes; without it, only
+The rows are those of the folder that the variable ROWS names, which `tests/model/make_rows.py` makes; without it, only
 the hand-written ones in this folder.
 
 tests/rows.sh has all of them ask first, so that the program is compiled once (tests/rows/tried). A case is a file of
@@ -25,7 +25,7 @@ from collections import namedtuple
 from pathlib import Path
 
 HERE = Path(__file__).resolve().parent
-sys.path.insert(0, str(HERE.parent / "plain"))
+sys.path.insert(0, str(HERE.parent / "model"))
 from row_lines import braced, repeated, written_out  # noqa: E402
 
 MOST = 512  # numbers that the program takes in a row (number_rows::MOST); it drops those after them
@@ -42,7 +42,7 @@ def text_in(name):
     try:
         return (ROWS / f"{name}.row").read_text()
     except FileNotFoundError:
-        raise SystemExit(f"{ROWS}/{name}.row isn't there: make all rows by tests/plain/make_rows.py FOLDER, and set ROWS to FOLDER") from None
+        raise SystemExit(f"{ROWS}/{name}.row isn't there: make all rows by tests/model/make_rows.py FOLDER, and set ROWS to FOLDER") from None
 
 
 def rows_of(text):

@@ -9,18 +9,18 @@
     place -> 9047 953                what is asked for
     3 x move 10000 -> 40000          the same line three times
     hear ahead -> 40000              a telegram, whose fields are at the head of the part
-    > started                        lines that have this name (tests/plain/row_lines.py)
+    > started                        lines that have this name (tests/model/row_lines.py)
 
 Each line that gets another answer is printed: by `step` over stores that keep all that was announced, by `apply` in place
 over stores that stay short, or by `apply` where each life begins by `power_up` with what was kept. So is each that is
 refused memory, and each whose answer says nothing. What is asked and reported, in numbers, stands in
-program/src/test_kernel.rt.txt; tests/plain/check_rows.py works out the wanted answers by the plain program."""
+program/src/test_kernel.rt.txt; tests/model/check_rows.py works out the wanted answers by the plain program."""
 import sys
 
 from asking import HERE, Block, run, text_in
 from kernel_words import NEW, answers, question
 
-sys.path.insert(0, str(HERE.parent / "plain"))
+sys.path.insert(0, str(HERE.parent / "model"))
 import rows
 
 NAME = "test_kernel"

@@ -3,14 +3,14 @@
 
 A row is one or several commands with `;` between them, which are done in turn. What each is to answer comes after
 `->`. Some lines stand for many, and of the lines in a group the digest of the answers alone is wanted
-(tests/plain/row_lines.py). What the commands mean stands in onboard_words.py, and questions and replies, in numbers,
+(tests/model/row_lines.py). What the commands mean stands in onboard_words.py, and questions and replies, in numbers,
 in program/src/test_onboard.rt.txt."""
 import sys
 
 from asking import HERE, Block, run, text_in
 from onboard_words import answer, questions
 
-sys.path.insert(0, str(HERE.parent / "plain"))
+sys.path.insert(0, str(HERE.parent / "model"))
 from row_lines import Group, combined, ranged
 
 NAME = "test_onboard"

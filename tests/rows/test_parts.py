@@ -5,7 +5,7 @@ A row's first word names the part that it is for; `test_parts_track.py`, `test_p
 `test_parts_groups.py` list what each part is asked; `file 100 3 1 5` fills a disk of 3 sectors over an honest file whose calls
 do 100 bytes at most, writes byte 5 to sector 1, syncs, and reads it. A row goes on where the one before of its part ended; `new`
 begins anew. Questions and replies, in numbers, are described in program/src/test_parts.rt.txt. The rows of
-tests/rows were worked out by hand from SUBSET-026 and this project's profile; tests/plain/make_rows.py adds those of
+tests/rows were worked out by hand from SUBSET-026 and this project's profile; tests/model/make_rows.py adds those of
 part_rows.py."""
 import sys
 

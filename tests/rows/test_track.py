@@ -9,7 +9,7 @@
     missing AT LENGTH    a packet from that place on, of so many bits, in 8 bytes
     kind NUMBER          what is known of a packet
     random COUNT SEED    so many telegrams with packets of each layout, altered at times: how many have the packets, and the fields
-                         of each with their units, that the plain program (../plain/track_packets.py) reports
+                         of each with their units, that the plain program (../model/track_packets.py) reports
 
 Questions and replies, in numbers, are described in program/src/test_track.rt.txt."""
 import random
@@ -19,7 +19,7 @@ import sys
 from asking import HERE, main_by_words
 from test_decode import take_bytes, of_bytes
 
-sys.path.insert(0, str(HERE.parent / "plain"))
+sys.path.insert(0, str(HERE.parent / "model"))
 import track_packets as plain  # noqa: E402
 
 FAULTS = {1: "Truncated", 2: "WrongLength", 3: "Spare", 4: "OutOfRange"}

@@ -1,4 +1,4 @@
-"""The names and texts of causes, as `etcs_lab why` prints them (crates/reasons/specs). Written by `tools/bindings`."""
+"""The names and texts of causes, as `etcs_lab why` prints them (crates/reasons/specs). Written by `tools/dev/bindings`."""
 CAUSES = {
     "not_revalidated": ("the driver has not revalidated since the power-up", "ends when the driver has revalidated"),
     "in_trip": ("the mode is Trip", "ends when the driver acknowledges the trip at standstill"),

@@ -1,5 +1,5 @@
 """The packets that a track sends and the kernel skips, and packet 3 as a track sends it: names, layouts, the widths of
-further variables, and the units of all. Written by `tools/packets` from crates/track_packets."""
+further variables, and the units of all. Written by `tools/dev/packets` from crates/track_packets."""
 
 NAMES: dict[int, str] = {
     0: "Virtual Balise Cover marker",

@@ -71,7 +71,7 @@ class Condition:
 
 @dataclass(frozen=True)
 class Row:
-    """A row of the mode table (`tools/tables`), and the mode from which it leads, if it has several."""
+    """A row of the mode table (`tools/dev/tables`), and the mode from which it leads, if it has several."""
 
     number: int
     source: str | None

@@ -18,13 +18,13 @@ def page(name: str) -> str:
 
 @functools.cache
 def tables() -> str:
-    """The page of tables: that of an installed product, or else the output of tools/tables."""
+    """The page of tables: that of an installed product, or else the output of tools/dev/tables."""
     if (DOCS / "tables.md").is_file():
         return page("tables.md")
-    done = subprocess.run([sys.executable, "-I", "-B", "-X", "utf8", TOP / "tools/tables", "--print"], stdin=subprocess.DEVNULL,
+    done = subprocess.run([sys.executable, "-I", "-B", "-X", "utf8", TOP / "tools/dev/tables", "--print"], stdin=subprocess.DEVNULL,
                           capture_output=True, encoding="utf-8", check=False)
     if done.returncode:
-        raise Failed(f"tools/tables: {done.stderr.strip()}", DEVICE)
+        raise Failed(f"tools/dev/tables: {done.stderr.strip()}", DEVICE)
     return done.stdout
 
 

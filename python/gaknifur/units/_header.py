@@ -1,4 +1,4 @@
-"""What include/etcs.h, etcs_unit.h, etcs_image.h and etcs_guard.h declare, for ctypes. Written by `tools/bindings`."""
+"""What c/include/etcs.h, etcs_unit.h, etcs_image.h and etcs_guard.h declare, for ctypes. Written by `tools/dev/bindings`."""
 import enum
 from ctypes import POINTER, Structure, c_char_p, c_int64, c_uint8, c_uint16, c_uint32, c_uint64, c_void_p
 

@@ -1,3 +1,0 @@
-//! The calls, structs and numbers of the C library. `tools/bindings` writes them to declared.rs.
-mod declared;
-pub use declared::*;

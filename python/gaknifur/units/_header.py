@@ -308,7 +308,7 @@ class UnusedReason(enum.IntEnum):
 
 
 class SlotState(enum.IntEnum):
-    """What a slot holds (docs/reference/format.md)."""
+    """The state of a slot (docs/reference/format.md)."""
 
     EMPTY = 0
     BLOCK = 1
@@ -343,7 +343,7 @@ class Verdict(enum.IntEnum):
 
 
 class RecordField(enum.IntEnum):
-    """What of a record differs first, in the order in which it is compared."""
+    """The first field of a record that differs, in the order of comparison."""
 
     EVENT = 1
     WORD = 2
@@ -359,7 +359,7 @@ class RecordField(enum.IntEnum):
 
 
 class KeptField(enum.IntEnum):
-    """What of a head differs first, in the order in which it is compared."""
+    """The first field of a head that differs, in the order of comparison."""
 
     EVENTS = 1
     LIVES = 2

@@ -3,9 +3,9 @@
 use crate::serializing::{write_area_mode, write_orientation, write_reaction};
 use areas::Area;
 use linking::Announcement;
-use track_store::Restriction;
 use serde::Serialize;
 use std::alloc::{AllocError, Global};
+use track_store::Restriction;
 use units::Cm;
 use vars::{
     AreaMode, AreaSpeed, Country, LinkOrientation, LinkReaction, TrainLengthDelay, Variable,

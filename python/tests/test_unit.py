@@ -21,7 +21,8 @@ from gaknifur.unit import (Acknowledgement, Action, Brake, ClosedGroup, Cold, Fi
                            TrainData, Unit, UnitDriver, UnitWhy, Waiting)
 from gaknifur.units._header import Direction, Fault, Proof, RequestKind, Source, StatusKind, UnusedReason
 
-INCLUDE = Path(__file__).resolve().parents[2] / "c/include"
+TOP = Path(__file__).resolve().parents[2]
+INCLUDE = TOP / "c/include"
 HEADER = INCLUDE / "etcs_unit.h"
 SECTOR = units.SECTOR
 TRAIN = TrainData(20_000, 160_000, 70, 1_000, 15)
@@ -49,7 +50,7 @@ class Names(unittest.TestCase):
         text = HEADER.read_text()
         texts = dict(re.findall(r'case \(uint32_t\)ETCS_UNIT_(\w+): text = "(\w+)";', text))
         self.assertEqual(texts, {one.name: one.name for one in Status})
-        page = (INCLUDE.parent / "docs/reference/refusals.md").read_text()
+        page = (TOP / "docs/reference/refusals.md").read_text()
         part = page[page.index("## The unit from C"):page.index("## The program")]
         rows = re.findall(r"^\| (\d+) \| ([A-Z_]+) \|(?:[^|\n]*\|){2} ?([^|\n]*)\|$", part, re.MULTILINE)
         self.assertEqual({(int(number), name) for number, name, _ in rows},
@@ -517,7 +518,7 @@ class Calls(OverTheLibrary):
                 unit.preview_telegram(b"")
 
     def test_the_version(self) -> None:
-        changes = HEADER.parents[1] / "CHANGELOG.md"
+        changes = TOP / "CHANGELOG.md"
         found = re.search(r"^## ([0-9.]+)$", changes.read_text(), re.MULTILINE)
         assert found is not None
         self.assertEqual(units.version(), found[1])

@@ -14,6 +14,7 @@ import hashlib
 import json
 import os
 import shutil
+import signal
 import subprocess
 import sys
 import tempfile
@@ -251,6 +252,7 @@ def without_tools(count, image):
 
 
 def main(words):
+    signal.signal(signal.SIGINT, signal.default_int_handler)  # (a job in the background begins with SIGINT ignored, and so would ./lab)
     os.environ["GAKNIFUR_ETCS_LAB"] = str(Path(words[0]).resolve())
     for name in ("key", "other"):
         run("ssh-keygen", "-q", "-t", "ed25519", "-N", "", "-C", "", "-f", ROOM / name)

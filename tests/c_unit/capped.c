@@ -1,10 +1,12 @@
-/* An executive whose unit has a buffer of its own, as the cap on what the track may announce (docs/explain/integration.md, "The cap").
+/* An executive whose unit has a buffer of its own, as the cap on what the track may announce
+ * (docs/explain/integration.md, "The cap").
  *
- *     capped PACKETS RESTRICTIONS GRADIENTS SPEEDS    gives it ETCS_MEMORY_BYTES of these, and reads from standard input: an input (inputs.h),
- *                                                     `cycle`, which hands in the inputs before it, and `again`, which ends and begins
+ *     capped PACKETS RESTRICTIONS GRADIENTS SPEEDS    gives it ETCS_MEMORY_BYTES of these, and reads from standard
+ * input: an input (inputs.h), `cycle`, which hands in the inputs before it, and `again`, which ends and begins
  *
- * Prints of each cycle and each begin: the fault, the brake that is obeyed, whether the watchdog was fed, the bytes of the buffer that are in
- * use, the most that were, how many requests were refused, the newest event, and a digest of the medium. */
+ * Prints of each cycle and each begin: the fault, the brake that is obeyed, whether the watchdog was fed, the bytes of
+ * the buffer that are in use, the most that were, how many requests were refused, the newest event, and a digest of the
+ * medium. */
 #include "etcs_executive.h"
 #include "etcs_memory.h"
 #include "inputs.h"
@@ -59,21 +61,16 @@ static void feed(void *of) {
     is_fed = 1;
 }
 
-/* A digest of the medium (FNV-1a). */
-static uint64_t digest(void) {
-    uint64_t found = UINT64_C(0xCBF29CE484222325);
-    for (size_t i = 0; i < on.len; i++)
-        found = (found ^ on.bytes[i]) * UINT64_C(0x100000001B3);
-    return found;
-}
-
 static void print(const char *what, uint32_t fault) {
     etcs_memory_info memory;
+    uint64_t of_medium = DIGEST;
+    digest(&of_medium, on.bytes, on.len);
     if (etcs_memory_state(&memory) != ETCS_UNIT_OK)
         exit(2);
-    printf("%s %s %s %u %llu %llu %llu %llu %llx\n", what, etcs_executive_fault_name(fault), etcs_brake_name(brake), is_fed, (unsigned long long)memory.used,
-           (unsigned long long)memory.most_used, (unsigned long long)memory.refused, (unsigned long long)executive.command.event,
-           (unsigned long long)digest());
+    printf("%s %s %s %u %llu %llu %llu %llu %llx\n", what, etcs_executive_fault_name(fault), etcs_brake_name(brake),
+           is_fed, (unsigned long long)memory.used, (unsigned long long)memory.most_used,
+           (unsigned long long)memory.refused, (unsigned long long)executive.command.event,
+           (unsigned long long)of_medium);
     is_fed = count = at = 0;
 }
 

@@ -1,21 +1,20 @@
-/* Runs one life, asks after each release why the output is what it is, and prints the explanation as JSON, an object per line. For each released
- * event it also calls etcs_image_why on the medium's bytes, which has to explain the same. While an event is pending, or its requests aren't
- * released, etcs_unit_why answers NOT_RELEASED and writes nothing.
+/* Runs lives, asks after each release why the output is what it is, and prints the explanation as JSON, an object per
+ * line. For each released event it also calls etcs_image_why on the medium's bytes, which has to explain the same.
+ * While an event is pending, or its requests aren't released, etcs_unit_why answers NOT_RELEASED and writes nothing.
  *
- *     explained COLD [TRIES]    reads inputs from standard input, one a line (inputs.h), or `flush`; TRIES is written to by the number of answers
+ *     explained    reads lives from standard input (lives.h)
  */
 #include "etcs_image.h"
-#include "inputs.h"
-#include "medium.h"
+#include "lives.h"
 
 static unsigned long long wide(uint64_t number) { return (unsigned long long)number; }
 
 /* That no explanation is available now. */
-static void reports_nothing(const char *what, etcs_unit *unit) {
+static void reports_nothing(etcs_unit *unit) {
     etcs_unit_why_info why, other;
     memset(&why, 0xAA, sizeof why);
     memset(&other, 0xAA, sizeof other);
-    is(what, etcs_unit_why(unit, &why), ETCS_UNIT_NOT_RELEASED);
+    is("why, before a release", etcs_unit_why(unit, &why), ETCS_UNIT_NOT_RELEASED);
     is("nothing is written", (uint64_t)memcmp(&why, &other, sizeof why), 0);
 }
 
@@ -24,19 +23,25 @@ static void waiting(const char *kind, uint8_t state, uint64_t left) {
 }
 
 static void print_why(const etcs_unit_why_info *why) {
-    printf("{\"event\":%llu,\"mode\":%u,\"level\":%u,\"brake\":%u,\"indications\":%u,\"limit\":%lu,\"speed\":%lu,\"backward\":%llu,\"allowed\":%llu,\"holds\":[",
-           wide(why->output.event), (unsigned)why->output.mode, (unsigned)why->output.level, (unsigned)why->output.brake, (unsigned)why->output.indications,
-           (unsigned long)why->output.limit_m_per_h, (unsigned long)why->speed_m_per_h, wide(why->backward_cm), wide(why->allowed_backward_cm));
+    printf("{\"event\":%llu,\"mode\":%u,\"level\":%u,\"brake\":%u,\"indications\":%u,\"limit\":%lu,\"speed\":%lu,"
+           "\"backward\":%llu,\"allowed\":%llu,\"holds\":[",
+           wide(why->output.event), (unsigned)why->output.mode, (unsigned)why->output.level,
+           (unsigned)why->output.brake, (unsigned)why->output.indications, (unsigned long)why->output.limit_m_per_h,
+           (unsigned long)why->speed_m_per_h, wide(why->backward_cm), wide(why->allowed_backward_cm));
     for (unsigned i = 0; i < ETCS_BRAKE_CAUSES; i++)
         printf("%s%u", i ? "," : "", (unsigned)why->holds[i]);
-    printf("],\"limit_cause\":%u,\"limit_cause_speed\":%lu,\"place\":[%u,%lld],\"number\":[%u,%llu],\"target\":[%u,%lu,%llu],\"release\":[%u,%lu],\"service\":%lu,\"emergency\":%lu",
-           (unsigned)why->limit_cause, (unsigned long)why->limit_cause_m_per_h, (unsigned)why->has_place, (long long)why->limit_cause_cm, (unsigned)why->has_restriction,
-           wide(why->restriction), (unsigned)why->has_target, (unsigned long)why->target_m_per_h, wide(why->target_distance_cm), (unsigned)why->has_release,
-           (unsigned long)why->release_m_per_h, (unsigned long)why->service_brake_m_per_h, (unsigned long)why->emergency_brake_m_per_h);
+    printf("],\"limit_cause\":%u,\"limit_cause_speed\":%lu,\"place\":[%u,%lld],\"number\":[%u,%llu],\"target\":[%u,%lu,"
+           "%llu],\"release\":[%u,%lu],\"service\":%lu,\"emergency\":%lu",
+           (unsigned)why->limit_cause, (unsigned long)why->limit_cause_m_per_h, (unsigned)why->has_place,
+           (long long)why->limit_cause_cm, (unsigned)why->has_restriction, wide(why->restriction),
+           (unsigned)why->has_target, (unsigned long)why->target_m_per_h, wide(why->target_distance_cm),
+           (unsigned)why->has_release, (unsigned long)why->release_m_per_h, (unsigned long)why->service_brake_m_per_h,
+           (unsigned long)why->emergency_brake_m_per_h);
     waiting("on_sight", why->on_sight, why->on_sight_ms);
     waiting("shunting", why->shunting, why->shunting_ms);
     waiting("level_0", why->level_0, why->level_0_ms);
-    printf(",\"override\":[%u,%u,%llu,%llu]}\n", (unsigned)why->has_override, (unsigned)why->override_ends, wide(why->override_ms), wide(why->override_cm));
+    printf(",\"override\":[%u,%u,%llu,%llu]}\n", (unsigned)why->has_override, (unsigned)why->override_ends,
+           wide(why->override_ms), wide(why->override_cm));
 }
 
 /* The same of the medium's bytes: the causes that hold, what decides the limit, and the numbers that both report. */
@@ -75,45 +80,7 @@ static void ask(const medium *on, etcs_unit *unit, const etcs_unit_output *last)
     print_why(&why);
 }
 
-/* Carries out the requests one by one, and releases; before that nothing is reported. */
-static void flush(medium *on, etcs_unit *unit, int prepares) {
-    etcs_unit_output outputs[ETCS_UNIT_OUTPUTS];
-    etcs_unit_request_info request;
-    uint8_t bytes[ETCS_UNIT_REQUEST_BYTES];
-    uint32_t count = 0, index = 0;
-    if (prepares)
-        is("prepare", etcs_unit_prepare(unit), ETCS_UNIT_OK);
-    while (etcs_unit_request(unit, &request, bytes, sizeof bytes) == ETCS_UNIT_OK) {
-        reports_nothing("why, before its requests are done", unit);
-        index++;
-        is("done", do_request(on, unit, &request, bytes), ETCS_UNIT_OK);
-    }
-    if (index > 0)
-        reports_nothing("why, before the release", unit);
-    is("release", etcs_unit_release(unit, outputs, ETCS_UNIT_OUTPUTS, &count), ETCS_UNIT_OK);
-    ask(on, unit, count > 0 ? &outputs[count - 1] : NULL);
-}
-
-int main(int count, char **words) {
-    char line[1024];
-    etcs_unit unit = {0};
-    medium on = formatted(64);
-    unsigned pending = 0;
-    is("open", etcs_unit_open(&unit, on.bytes, on.len, count > 1 ? (uint32_t)strtoul(words[1], NULL, 10) : 0), ETCS_UNIT_OK);
-    flush(&on, &unit, 0);
-    while (fgets(line, sizeof line, stdin)) {
-        if (strcmp(line, "flush\n") != 0) {
-            is(line, take(&unit, line), ETCS_UNIT_OK);
-            reports_nothing("why, while it is pending", &unit);
-            pending++;
-        }
-        if (pending == 8 || (pending > 0 && strcmp(line, "flush\n") == 0)) {
-            flush(&on, &unit, 1);
-            pending = 0;
-        }
-    }
-    etcs_unit_close(&unit);
-    free(on.bytes);
-    printf("{\"tried\":%u}\n", tried);
-    return wrong > 0;
+int main(void) {
+    static const questions asked = {NULL, reports_nothing, ask};
+    return run_lives(&asked);
 }

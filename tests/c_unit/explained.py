@@ -1,6 +1,7 @@
 #!/usr/bin/env python3
-"""Compares what etcs_unit_why explains of the newest released output with the plain program, over pseudo-random lives, event by event, and with
-what etcs_image_why says about the medium's bytes (explained.c compares that). Before an event is released there is no explanation.
+"""Compares what etcs_unit_why explains of the newest released output with the plain program, over pseudo-random lives,
+event by event, and with what etcs_image_why says about the medium's bytes (explained.c compares that). Before an event
+is released there is no explanation.
 
     tests/c_unit/explained.py PROGRAM..     explained.c built in several ways
 """
@@ -11,7 +12,8 @@ from collections import Counter
 from pathlib import Path
 
 HERE = Path(__file__).resolve().parent
-sys.path[:0] = [str(HERE.parents[1] / part) for part in ("tests", "tests/model", "tests/hostile", "tests/etcs_lab", "python")]
+FOLDERS = ("tests", "tests/model", "tests/hostile", "tests/etcs_lab", "python")
+sys.path[:0] = [str(HERE.parents[1] / part) for part in FOLDERS]
 from compared import Compared  # noqa: E402
 from gaknifur.lives import LimitCause  # noqa: E402
 from items import Kept  # noqa: E402
@@ -29,11 +31,13 @@ KINDS = {"on_sight": "on-sight", "shunting": "shunting", "level_0": "level-0"}
 CONFIRMED = ("identity", "running-number", "train-data", "level")
 ACKNOWLEDGED = ("trip", "on-sight", "shunting", "level-0")
 ALONE = {"start": 7, "choose-shunting": 8, "leave-shunting": 9, "override": 10, "close-desk": 15}
-MARGIN, FARTHER, OWED_MS = 5_000, 10_000, 5_000  # m/h above the limit at most, and how long an acknowledgement may be owed (by hand)
+# m/h above the limit at most, and how long an acknowledgement may be owed (by hand)
+MARGIN, FARTHER, OWED_MS = 5_000, 10_000, 5_000
 RELEASES = ("release_speed", "national_release_speed")
-# What is to be met: each state of an acknowledgement, a time of it that is over, a target, a release speed, an override with and without a
-# time.
-MET = ("asked", "owed", "over", "target", "release", "place", "number", "power-up", "overridden", "overridden-without-end")
+# What is to be met: each state of an acknowledgement, a time of it that is over, a target, a release speed, an override
+# with and without a time.
+MET = ("asked", "owed", "over", "target", "release", "place", "number", "power-up", "overridden",
+       "overridden-without-end")
 
 
 def line_of(word, value):
@@ -44,7 +48,8 @@ def line_of(word, value):
         "hear": lambda: f"telegram {value}", "move": lambda: f"odometer {value}", "clock": lambda: f"clock {value}",
         "enter-identity": lambda: f"identity {value.encode().hex()}", "enter-running-number": lambda: f"number {value}",
         "enter-train-data": lambda: f"train {value}", "choose-level": lambda: f"action {1 + int(value)}",
-        "confirm": lambda: f"action {3 + CONFIRMED.index(value)}", "acknowledge": lambda: f"action {11 + ACKNOWLEDGED.index(value)}",
+        "confirm": lambda: f"action {3 + CONFIRMED.index(value)}",
+        "acknowledge": lambda: f"action {11 + ACKNOWLEDGED.index(value)}",
     }[word]()
 
 
@@ -69,16 +74,18 @@ def wanted_of(life, reasons, number):
     """The wanted members after the newest event of a life, which has this number."""
     answer, members = life.now.output, reasons.members(number)
     kind, place, nid = members["limit_cause"], members["limit_cause_place_cm"], members["limit_cause_number"]
-    is_ahead, releases = kind.endswith("_ahead") or kind in ("end_of_authority", "supervised_location"), kind in RELEASES
-    target = [1, members["limit_cause_speed_m_per_h"], max(0, place - life.stretch().max_front)] if is_ahead else [0, 0, 0]
+    is_ahead = kind.endswith("_ahead") or kind in ("end_of_authority", "supervised_location")
+    speed = members["limit_cause_speed_m_per_h"]
+    target = [1, speed, max(0, place - life.stretch().max_front)] if is_ahead else [0, 0, 0]
     return {
         "event": number, "mode": MODES[answer.mode], "level": 255 if answer.level == "-" else int(answer.level),
         "brake": BRAKES.index(answer.brake), "limit": answer.limit, "speed": members["speed_m_per_h"],
         "backward": members["backward_cm"], "allowed": members["allowed_backward_cm"],
         "holds": [int(members[word] is not None) for word, *_ in WORDS.values()],
-        "limit_cause": LimitCause[kind.upper()], "limit_cause_speed": members["limit_cause_speed_m_per_h"],
-        "place": [0, 0] if place is None else [1, place], "number": [0, 0] if nid is None else [1, nid], "target": target,
-        "release": [1, answer.limit] if releases else [0, 0], "service": answer.limit + MARGIN, "emergency": answer.limit + FARTHER,
+        "limit_cause": LimitCause[kind.upper()], "limit_cause_speed": speed,
+        "place": [0, 0] if place is None else [1, place], "number": [0, 0] if nid is None else [1, nid],
+        "target": target, "release": [1, answer.limit] if kind in RELEASES else [0, 0],
+        "service": answer.limit + MARGIN, "emergency": answer.limit + FARTHER,
         **{name: waiting(life, kind) for name, kind in KINDS.items()}, "override": overriding(life),
     }
 
@@ -96,25 +103,25 @@ def met_in(one):
 
 
 def lives():
-    """Of each life its word, the lines of its inputs, and what is to be reported after each release: for each kind of what decides a limit one by
-    hand, and pseudo-random ones."""
+    """The lines of each life, and what is to be reported after each release: for each kind of what decides a limit one
+    by hand, and pseudo-random ones."""
     for _, inputs, _ in BY_HAND:
         life = Life(Kept(), "unknown")
         reasons = Reasons(life, 0)
-        lines, wanted = [], [wanted_of(life, reasons, 0)]
+        lines, wanted = ["power-up 0"], [wanted_of(life, reasons, 0)]
         for at, said in enumerate(map(parts, inputs), 1):
             life.take(*said)
             reasons.note(at)
             lines += [line_of(*said), "flush"]
             wanted.append(wanted_of(life, reasons, at))
-        yield 0, lines, wanted
+        yield lines, wanted
     numbers = Numbers(31_077)
     for number in range(LIVES):
         telegrams = TRACK + SUPERVISION[:2] if number % 3 == 0 else SUPERVISION
         word = numbers.one_of(COLD)
         life = Life(Kept(), word)
         reasons = Reasons(life, 0)
-        lines, wanted, pending = [], [wanted_of(life, reasons, 0)], 0
+        lines, wanted, pending = [f"power-up {COLD.index(word)}"], [wanted_of(life, reasons, 0)], 0
         for at in range(1, 21 + numbers.below(60)):
             said = parts(event(numbers, telegrams, life))
             life.take(*said)
@@ -125,18 +132,19 @@ def lives():
                 lines += [] if pending == 8 else ["flush"]
                 wanted.append(wanted_of(life, reasons, at))
                 pending = 0
-        yield COLD.index(word), lines, wanted
+        yield lines, wanted
 
 
 def main(programs):
     compared, met = Compared(), Counter()
     tried = outputs = 0
-    for number, (cold, lines, wanted) in enumerate(lives()):
+    for number, (lines, wanted) in enumerate(lives()):
         for program in programs if number % 10 == 0 else programs[:1]:
             text = "".join(f"{line}\n" for line in lines)
-            ran = subprocess.run([program, str(cold)], input=text, capture_output=True, text=True, timeout=100)
+            ran = subprocess.run([program], input=text, capture_output=True, text=True, timeout=100)
             *found, last = [line for line in ran.stdout.splitlines() if line.startswith("{")] or ['{"tried": 0}']
-            compared.unless(ran.returncode == 0, f"life {number}: {[line for line in ran.stdout.splitlines() if not line.startswith('{')][:5]}{ran.stderr[:300]}")
+            others = [line for line in ran.stdout.splitlines() if not line.startswith("{")]
+            compared.unless(ran.returncode == 0, f"life {number}: {others[:5]}{ran.stderr[:300]}")
             tried += json.loads(last)["tried"]
             found = [json.loads(line) for line in found]
             for one, so in zip(found, wanted):
@@ -147,8 +155,10 @@ def main(programs):
             outputs += len(found)
     for name in MET:
         compared.unless(met[name], f"no output has this: {name}")
-    compared.unless(outputs >= LEAST_OUTPUTS and tried >= LEAST_ANSWERS, f"too few: {outputs} outputs and {tried} answers, {LEAST_OUTPUTS} and {LEAST_ANSWERS} are wanted")
-    return compared.end(f"why, of a unit that runs: {outputs} released outputs compared with the plain program, {tried} answers in C; {dict(met)}")
+    compared.unless(outputs >= LEAST_OUTPUTS and tried >= LEAST_ANSWERS,
+                    f"too few: {outputs} outputs and {tried} answers, {LEAST_OUTPUTS} and {LEAST_ANSWERS} are wanted")
+    return compared.end(f"why, of a unit that runs: {outputs} released outputs compared with the plain program, "
+                        f"{tried} answers in C; {dict(met)}")
 
 
 if __name__ == "__main__":

@@ -1,21 +1,11 @@
-/* The guard next to the unit through the calls of etcs_guard.h: telegrams by hand, as SUBSET-026, 7.4.2 and 8.4.2 lays them out, what they demand in
- * which mode, and wrong calls, after which nothing is written. tests/rows/test_guard.row has each row of the table. */
-#include <stdio.h>
-#include <string.h>
-
-#include "etcs.h"
+/* The guard next to the unit through the calls of etcs_guard.h: telegrams by hand, as SUBSET-026, 7.4.2 and 8.4.2 lays
+ * them out, what they demand in which mode, and wrong calls, after which nothing is written. tests/rows/test_guard.row
+ * has each row of the table. */
 #include "etcs_guard.h"
+#include "medium.h"
 
-static int failures;
-
-static void is(const char *what, uint64_t found, uint64_t wanted) {
-    if (found != wanted) {
-        printf("%s: %llu, wanted %llu\n", what, (unsigned long long)found, (unsigned long long)wanted);
-        failures++;
-    }
-}
-
-/* Packet 137 with Q_SRSTOP 0 for both directions, and with Q_SRSTOP 1; the first in a telegram of version 2.0; N_PIG 1 with N_TOTAL 0 and Q_LINK 0. */
+/* Packet 137 with Q_SRSTOP 0 for both directions, and with Q_SRSTOP 1; the first in a telegram of version 2.0; N_PIG 1
+ * with N_TOTAL 0 and Q_LINK 0. */
 static const uint8_t stop[] = {0x90, 0x00, 0x7F, 0x80, 0x20, 0x01, 0x62, 0x60, 0x0C, 0x3F, 0xC0};
 static const uint8_t go[] = {0x90, 0x00, 0x7F, 0x80, 0x20, 0x01, 0x62, 0x60, 0x0C, 0x7F, 0xC0};
 static const uint8_t later[] = {0xA0, 0x00, 0x7F, 0x80, 0x20, 0x01, 0x62, 0x60, 0x0C, 0x3F, 0xC0};
@@ -24,7 +14,8 @@ static const uint8_t unlinked[] = {0x90, 0x10, 0x00, 0x00, 0x00, 0x00, 0x00};
 static const etcs_demand blank = {9, 9, 9, 9, 9, 9, 9, 9, 9, 9};
 
 /* A demand, or the status where there is none; with anything but OK nothing was written. */
-static etcs_demand demand_of(const uint8_t *bytes, size_t len, etcs_situation situation, uint32_t index, uint32_t wanted) {
+static etcs_demand demand_of(const uint8_t *bytes, size_t len, etcs_situation situation, uint32_t index,
+                             uint32_t wanted) {
     etcs_demand demand = blank;
     uint32_t status = etcs_guard_demand(bytes, len, &situation, index, &demand);
     is("status of a demand", status, wanted);
@@ -34,7 +25,8 @@ static etcs_demand demand_of(const uint8_t *bytes, size_t len, etcs_situation si
 }
 
 static void demands(void) {
-    etcs_situation sr = {ETCS_STAFF_RESPONSIBLE, ETCS_DIRECTION_NOT_KNOWN, 0}, fs = {ETCS_FULL_SUPERVISION, ETCS_DIRECTION_NOMINAL, 0};
+    etcs_situation sr = {ETCS_STAFF_RESPONSIBLE, ETCS_DIRECTION_NOT_KNOWN, 0},
+                   fs = {ETCS_FULL_SUPERVISION, ETCS_DIRECTION_NOMINAL, 0};
     etcs_demand demand = demand_of(stop, sizeof stop, sr, 0, ETCS_UNIT_OK);
     is("demanded", demand.demanded, ETCS_DEMANDED_TRIP);
     is("finding", demand.finding, ETCS_FINDING_STOP_IN_STAFF_RESPONSIBLE);
@@ -58,7 +50,8 @@ static void demands(void) {
 }
 
 static void wrong_numbers(void) {
-    etcs_situation none[] = {{5, 0, 0}, {10, 0, 0}, {258, 0, 0}, {2, 3, 0}, {2, 0, 2}, {UINT32_MAX, UINT32_MAX, UINT32_MAX}};
+    etcs_situation none[] = {{5, 0, 0}, {10, 0, 0}, {258, 0, 0},
+                             {2, 3, 0}, {2, 0, 2},  {UINT32_MAX, UINT32_MAX, UINT32_MAX}};
     etcs_guard guard, before;
     uint32_t count = 77, brake = 77;
     is("begin", etcs_guard_begin(&guard, ETCS_GUARD_STRICT), ETCS_UNIT_OK);
@@ -101,7 +94,8 @@ static void null_pointers(void) {
     is("acknowledge", etcs_guard_acknowledge(NULL, 0), ETCS_UNIT_NULL_POINTER);
     is("command", etcs_guard_command(NULL, 0, &count), ETCS_UNIT_NULL_POINTER);
     is("command", etcs_guard_command(&guard, 0, NULL), ETCS_UNIT_NULL_POINTER);
-    is("nothing is written", (uint64_t)(count != 77 || guard.has_heard != 0 || memcmp(&demand, &blank, sizeof blank) != 0), 0);
+    is("nothing is written",
+       (uint64_t)(count != 77 || guard.has_heard != 0 || memcmp(&demand, &blank, sizeof blank) != 0), 0);
 }
 
 /* What the guard commands, where the unit commands a brake. */
@@ -139,6 +133,5 @@ int main(void) {
     null_pointers();
     a_guard(ETCS_GUARD_STRICT);
     a_guard(ETCS_GUARD_WARN);
-    printf("guard: %d differences\n", failures);
-    return failures != 0;
+    return report("guard", 412);
 }

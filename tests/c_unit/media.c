@@ -1,7 +1,8 @@
-/* The unit over media that makers use: NOR flashes (c/include/etcs_nor.h), one of them with erase blocks in which two slots would have their
- * places, an FRAM, and an eMMC with a cache. Flashes with other blocks than they are set up for are refused. Power is lost at any byte
- * that is programmed, erased or written; inputs come while requests are carried out; reads, programs, erasures, writes and syncs fail.
- * What is on the medium then is a beginning of the events that were taken, with each one whose output was released.
+/* The unit over media that makers use: NOR flashes (c/include/etcs_nor.h), one of them with erase blocks in which two
+ * slots would have their places, an FRAM, and an eMMC with a cache. Flashes with other blocks than they are set up for
+ * are refused. Power is lost at any byte that is programmed, erased or written; inputs come while requests are carried
+ * out; reads, programs, erasures, writes and syncs fail. What is on the medium then is a beginning of the events that
+ * were taken, with each one whose output was released.
  *
  *     media [STEP]    loses power at each STEP-th byte (default: 1) of a life */
 #include "etcs_executive.h"
@@ -9,22 +10,14 @@
 #include "etcs_nor.h"
 #include "medium.h"
 
-enum { SLOTS = 3, SECTORS = 1 + 6 * SLOTS, SMALL = 4096, LARGE = 8192, BYTES = (1 + SLOTS) * LARGE, LIVES = 500, MOST_BYTES = 16000, MOST_EVENTS = 60000 };
-
-static uint64_t drawn = 1;
-
-/* A number below `below`. */
-static uint32_t draw(uint32_t below) {
-    drawn ^= drawn << 13;
-    drawn ^= drawn >> 7;
-    drawn ^= drawn << 17;
-    return (uint32_t)((drawn >> 32) % below);
-}
+enum { SLOTS = 3, SECTORS = 1 + 6 * SLOTS, SMALL = 4096, LARGE = 8192, BYTES = (1 + SLOTS) * LARGE };
+enum { LIVES = 500, MOST_BYTES = 16000, MOST_EVENTS = 60000 };
 
 /* ---- the chip: bytes, how many more of them may be changed until power is lost, and which call fails */
 
 static uint8_t cells[BYTES];
-static uint64_t left, calls_left, erasures, granule = SMALL, whole = BYTES; /* (what an erasure takes; after how many bytes places begin anew) */
+static uint64_t left, calls_left, erasures,
+    granule = SMALL, whole = BYTES; /* (what an erasure takes; after how many bytes places begin anew) */
 
 /* How many of so many bytes are changed by this call; all, unless power is lost or the call fails. */
 static size_t changed(size_t len, int *is_done) {
@@ -130,7 +123,8 @@ static const kind *on;
 
 /* ---- what was taken and released */
 
-/* The moment of each event that was taken, 0 of a power-up; the number of the next one; the newest whose output was released. */
+/* The moment of each event that was taken, 0 of a power-up; the number of the next one; the newest whose output was
+ * released. */
 static uint64_t moments[MOST_EVENTS], next, released, cuts, refused, lists;
 
 /* Reads the journal of the medium: what it holds was taken, and what was released is there. */
@@ -145,12 +139,14 @@ static void check(void) {
     for (uint64_t sector = 0; sector < SECTORS; sector++)
         is("a sector is read", (uint64_t)on->read_sector(&nor, sector, image + sector * ETCS_UNIT_SECTOR), 1);
     uint32_t status = etcs_journal_open(image, sizeof image, &journal);
-    while (status == ETCS_UNIT_OK && (status = etcs_journal_next(image, sizeof image, &journal, &record)) == ETCS_UNIT_OK) {
+    while (status == ETCS_UNIT_OK &&
+           (status = etcs_journal_next(image, sizeof image, &journal, &record)) == ETCS_UNIT_OK) {
         first = first ? first : record.block;
         newest = record.event;
         is_same &= newest < next && record.moment_ms == moments[newest % MOST_EVENTS];
         const uint64_t slot = record.block % SLOTS, at = (1 + 6 * slot) * ETCS_UNIT_SECTOR;
-        is_whole &= etcs_image_slot_start(image + at, sizeof image - at, SLOTS, slot, &start) == ETCS_UNIT_OK && start.number == record.block;
+        is_whole &= etcs_image_slot_start(image + at, sizeof image - at, SLOTS, slot, &start) == ETCS_UNIT_OK &&
+                    start.number == record.block;
     }
     is("the journal is read to its end", status, ETCS_UNIT_END);
     is("its events are those that were taken", is_same, 1);
@@ -192,7 +188,8 @@ static int hands_in(etcs_unit *unit, uint64_t sector) {
 static uint32_t reads_all(etcs_unit *unit) {
     static uint8_t bytes[ETCS_UNIT_REQUEST_BYTES];
     etcs_unit_request_info request;
-    while (etcs_unit_request(unit, &request, bytes, sizeof bytes) == ETCS_UNIT_OK && request.kind == ETCS_REQUEST_READ) {
+    while (etcs_unit_request(unit, &request, bytes, sizeof bytes) == ETCS_UNIT_OK &&
+           request.kind == ETCS_REQUEST_READ) {
         if (!hands_in(unit, request.sector)) {
             is("a power-up is abandoned", etcs_unit_fail(unit), ETCS_UNIT_OK);
             return ETCS_UNIT_FAILED;
@@ -320,8 +317,9 @@ static void feed(void *of) {
 }
 
 static void under_an_executive(void) {
-    static const etcs_equipment equipment = {NULL, &nor, SECTORS, 100000, 50000, NULL, 0, etcs_nor_read_sector, etcs_nor_carry_out, now_us, wait_until_us,
-                                             take_inputs, obey, feed};
+    static const etcs_equipment equipment = {
+        NULL,   &nor,          SECTORS,     100000, 50000, NULL, 0, etcs_nor_read_sector, etcs_nor_carry_out,
+        now_us, wait_until_us, take_inputs, obey,   feed};
     for (uint32_t lives = 0; lives < LIVES / 4; lives++) {
         left = draw(4) ? 1 + draw(60000) : UINT64_MAX;
         nor.next = 0;
@@ -338,9 +336,12 @@ static void under_an_executive(void) {
 
 /* Requests that no unit makes, and flashes that are too small: nothing is done. */
 static void refuses(void) {
-    static const etcs_unit_request_info requests[] = {{0, 2, ETCS_REQUEST_WRITE}, {1, 5, ETCS_REQUEST_WRITE}, {2, 1, ETCS_REQUEST_WRITE}, {3, 5, ETCS_REQUEST_WRITE},
-                                                      {2, 6, ETCS_REQUEST_WRITE}, {6, 1, ETCS_REQUEST_WRITE}, {SECTORS, 1, ETCS_REQUEST_WRITE}};
-    static const uint64_t sizes[][2] = {{ETCS_NOR_BLOCK_BYTES - 1, 4}, {SMALL, 0}, {SMALL, 2}, {SMALL, 1048578}, {UINT64_MAX, 4}};
+    static const etcs_unit_request_info requests[] = {{0, 2, ETCS_REQUEST_WRITE},      {1, 5, ETCS_REQUEST_WRITE},
+                                                      {2, 1, ETCS_REQUEST_WRITE},      {3, 5, ETCS_REQUEST_WRITE},
+                                                      {2, 6, ETCS_REQUEST_WRITE},      {6, 1, ETCS_REQUEST_WRITE},
+                                                      {SECTORS, 1, ETCS_REQUEST_WRITE}};
+    static const uint64_t sizes[][2] = {
+        {ETCS_NOR_BLOCK_BYTES - 1, 4}, {SMALL, 0}, {SMALL, 2}, {SMALL, 1048578}, {UINT64_MAX, 4}};
     static uint8_t before[BYTES], bytes[ETCS_UNIT_REQUEST_BYTES];
     memcpy(before, cells, BYTES);
     for (unsigned i = 0; i < sizeof requests / sizeof requests[0]; i++)
@@ -354,13 +355,18 @@ static void refuses(void) {
     is("nothing is done", (uint64_t)memcmp(before, cells, BYTES), 0);
 }
 
-/* Flashes set up with blocks of so many bytes, whose erasures take so many, and whose places begin anew after so many; and each of the calls of a
- * check fails. A flash with a journal stays as it is. */
+/* Flashes set up with blocks of so many bytes, whose erasures take so many, and whose places begin anew after so many;
+ * and each of the calls of a check fails. A flash with a journal stays as it is. */
 static void checks_blocks(void) {
-    static const uint64_t flashes[][4] = {
-        {SMALL, SMALL, BYTES, ETCS_NOR_OK}, {LARGE, LARGE, BYTES, ETCS_NOR_OK}, {SMALL, LARGE, BYTES, ETCS_NOR_ERASED_MORE},
-        {SMALL, 4 * SMALL, BYTES, ETCS_NOR_ERASED_MORE}, {SMALL, SMALL / 2, BYTES, ETCS_NOR_ERASED_LESS}, {SMALL * 3 / 2, SMALL, BYTES, ETCS_NOR_ERASED_LESS},
-        {LARGE, SMALL, BYTES, ETCS_NOR_ERASED_LESS}, {SMALL, SMALL, 2 * SMALL, ETCS_NOR_ERASED_MORE}, {LARGE, LARGE, 3 * LARGE, ETCS_NOR_ERASED_MORE}};
+    static const uint64_t flashes[][4] = {{SMALL, SMALL, BYTES, ETCS_NOR_OK},
+                                          {LARGE, LARGE, BYTES, ETCS_NOR_OK},
+                                          {SMALL, LARGE, BYTES, ETCS_NOR_ERASED_MORE},
+                                          {SMALL, 4 * SMALL, BYTES, ETCS_NOR_ERASED_MORE},
+                                          {SMALL, SMALL / 2, BYTES, ETCS_NOR_ERASED_LESS},
+                                          {SMALL * 3 / 2, SMALL, BYTES, ETCS_NOR_ERASED_LESS},
+                                          {LARGE, SMALL, BYTES, ETCS_NOR_ERASED_LESS},
+                                          {SMALL, SMALL, 2 * SMALL, ETCS_NOR_ERASED_MORE},
+                                          {LARGE, LARGE, 3 * LARGE, ETCS_NOR_ERASED_MORE}};
     static uint8_t before[BYTES];
     uint32_t fault = ETCS_NOR_FAILED, call;
     formats();
@@ -380,7 +386,8 @@ static void checks_blocks(void) {
     }
     is("a check whose calls fail", fault, ETCS_NOR_OK);
     is("calls of a check", call > (1 + SLOTS) * (7 + on->block / 64), 1);
-    is("a block that is checked isn't ready", memcmp(cells + nor.block_bytes + 6 * ETCS_UNIT_SECTOR, ETCS_NOR_READY, 8) == 0, 0);
+    is("a block that is checked isn't ready",
+       memcmp(cells + nor.block_bytes + 6 * ETCS_UNIT_SECTOR, ETCS_NOR_READY, 8) == 0, 0);
     formats();
     is("a life on what was checked", (uint64_t)lived(10, UINT64_MAX, 0), 1);
 }
@@ -412,7 +419,8 @@ int main(int count, char **words) {
         }
         is("lives that lose power", cuts > LIVES / 8, 1);
         is("lives whose medium fails", refused > LIVES / 8, 1);
-        printf("%s: power lost %llu times, %llu failures\n", on->name, (unsigned long long)cuts, (unsigned long long)refused);
+        printf("%s: power lost %llu times, %llu failures\n", on->name, (unsigned long long)cuts,
+               (unsigned long long)refused);
     }
     return report("media", 100000);
 }

@@ -27,6 +27,23 @@ static inline int report(const char *what, unsigned least) {
     return wrong > 0 || tried < least;
 }
 
+/* Goes on with a digest of bytes (FNV-1a), which begins with DIGEST. */
+#define DIGEST UINT64_C(0xCBF29CE484222325)
+
+static inline void digest(uint64_t *to, const void *from, size_t len) {
+    for (size_t i = 0; i < len; i++)
+        *to = (*to ^ ((const uint8_t *)from)[i]) * UINT64_C(0x100000001B3);
+}
+
+/* A number below `below`, pseudo-random. */
+static inline uint32_t draw(uint32_t below) {
+    static uint64_t drawn = 1;
+    drawn ^= drawn << 13;
+    drawn ^= drawn >> 7;
+    drawn ^= drawn << 17;
+    return (uint32_t)((drawn >> 32) % below);
+}
+
 typedef struct {
     uint8_t *bytes;
     size_t len;
@@ -53,7 +70,8 @@ static inline const uint8_t *sector_of(const medium *on, uint64_t sector) {
 }
 
 /* Carries out one request, and says so. */
-static inline uint32_t do_request(medium *on, etcs_unit *unit, const etcs_unit_request_info *request, const uint8_t *bytes) {
+static inline uint32_t do_request(medium *on, etcs_unit *unit, const etcs_unit_request_info *request,
+                                  const uint8_t *bytes) {
     if (request->kind == ETCS_REQUEST_READ)
         return etcs_unit_provide(unit, request->sector, sector_of(on, request->sector), ETCS_UNIT_SECTOR);
     do_on(on, request, bytes);

@@ -1,10 +1,10 @@
-/* Runs lives over one medium, and prints before each input what etcs_unit_refusals reports, and of a telegram or a reading what
- * etcs_unit_preview_telegram or etcs_unit_preview_odometer does, as JSON, an object per line. They change nothing.
+/* Runs lives over one medium, and prints before each input what etcs_unit_refusals reports, and of a telegram or a
+ * reading what etcs_unit_preview_telegram or etcs_unit_preview_odometer does, as JSON, an object per line. They change
+ * nothing.
  *
- *     preview    reads inputs from standard input, one a line (inputs.h), `flush`, or `power-up COLD`; the first line is a power-up
+ *     preview    reads lives from standard input (lives.h)
  */
-#include "inputs.h"
-#include "medium.h"
+#include "lives.h"
 
 static void print_groups(const etcs_unit_preview_info *preview) {
     etcs_unit_group none;
@@ -13,8 +13,9 @@ static void print_groups(const etcs_unit_preview_info *preview) {
         is("no group", (uint64_t)memcmp(&preview->groups[i], &none, sizeof none), 0);
     for (unsigned i = 0; i < preview->count && i < 2; i++) {
         const etcs_unit_group *group = &preview->groups[i];
-        printf("%s{\"country\":%lu,\"group\":%lu,\"direction\":\"%s\",\"outcome\":\"%s\",\"announcement\":", i ? "," : "", (unsigned long)group->country,
-               (unsigned long)group->group, etcs_direction_name(group->direction), etcs_group_outcome_name(group->outcome));
+        printf("%s{\"country\":%lu,\"group\":%lu,\"direction\":\"%s\",\"outcome\":\"%s\",\"announcement\":",
+               i ? "," : "", (unsigned long)group->country, (unsigned long)group->group,
+               etcs_direction_name(group->direction), etcs_group_outcome_name(group->outcome));
         if (group->has_announcement)
             printf("%u", (unsigned)group->announcement);
         else
@@ -52,14 +53,15 @@ static void ask(etcs_unit *unit, const char *line) {
     printf("{\"actions\":[");
     for (unsigned i = 0; i < ETCS_ACTIONS; i++)
         printf("%s\"%s\"", i ? "," : "", etcs_refusal_name(refusals.actions[i]));
-    printf("],\"entries\":[\"%s\",\"%s\",\"%s\"]", etcs_refusal_name(refusals.identity), etcs_refusal_name(refusals.running_number),
-           etcs_refusal_name(refusals.train_data));
+    printf("],\"entries\":[\"%s\",\"%s\",\"%s\"]", etcs_refusal_name(refusals.identity),
+           etcs_refusal_name(refusals.running_number), etcs_refusal_name(refusals.train_data));
     memset(&preview, 0xAA, sizeof preview);
     if (preview_of(unit, line, &preview)) {
         (void)preview_of(unit, line, &again);
         is("the preview is repeated", (uint64_t)memcmp(&preview, &again, sizeof again), 0);
         is("zero", preview.reserved, 0);
-        printf(",\"telegram\":\"%s\",\"fault\":\"%s\",\"groups\":[", etcs_telegram_outcome_name(preview.telegram), etcs_fault_name(preview.fault));
+        printf(",\"telegram\":\"%s\",\"fault\":\"%s\",\"groups\":[", etcs_telegram_outcome_name(preview.telegram),
+               etcs_fault_name(preview.fault));
         print_groups(&preview);
         printf("]");
     }
@@ -71,31 +73,6 @@ static void ask(etcs_unit *unit, const char *line) {
 }
 
 int main(void) {
-    char line[1024];
-    etcs_unit unit = {0};
-    etcs_unit_output outputs[ETCS_UNIT_OUTPUTS];
-    uint32_t count;
-    medium on = formatted(64);
-    unsigned cold, pending = 0;
-    while (fgets(line, sizeof line, stdin)) {
-        if (sscanf(line, "power-up %u", &cold) == 1) {
-            (void)etcs_unit_close(&unit);
-            is("open", etcs_unit_open(&unit, on.bytes, on.len, cold), ETCS_UNIT_OK);
-            is("carry out", carry_out(&on, &unit), ETCS_UNIT_OK);
-            is("release", etcs_unit_release(&unit, outputs, ETCS_UNIT_OUTPUTS, &count), ETCS_UNIT_OK);
-            pending = 0;
-        } else if (strcmp(line, "flush\n") != 0) {
-            ask(&unit, line);
-            is(line, take(&unit, line), ETCS_UNIT_OK);
-            pending++;
-        }
-        if (pending == 8 || (pending > 0 && strcmp(line, "flush\n") == 0)) {
-            is("flush", flushed(&on, &unit, outputs, &count), ETCS_UNIT_OK);
-            pending = 0;
-        }
-    }
-    (void)etcs_unit_close(&unit);
-    free(on.bytes);
-    printf("{\"tried\":%u}\n", tried);
-    return wrong > 0;
+    static const questions asked = {ask, NULL, NULL};
+    return run_lives(&asked);
 }

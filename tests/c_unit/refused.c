@@ -1,13 +1,15 @@
-/* Refuses memory to the unit: lives one life on an image again and again, and refuses in each run one request for memory of the library's,
- * in turn, until a run meets no refusal.
+/* Refuses memory to the unit: lives one life on an image again and again, and refuses in each run one request for
+ * memory of the library's, in turn, until a run meets no refusal.
  *
- *     refused IMAGE    reads the life from standard input: `open COLD`, an input (inputs.h), `flush` or `close` on each line
+ *     refused IMAGE    reads the life from standard input: `open COLD`, an input (inputs.h), `flush` or `close` on each
+ * line
  *
- * A call that is refused memory says so and changes nothing that is reported; it is made once more. All else is as in a run without a refusal:
- * each status, request, byte and output, and what the medium holds in the end. Only `open`, the inputs and the preview of a telegram, which is
- * asked for before it is handed in, ask for memory, and after the life all of it is given back. Where the life meets no refusal the run fails. Built with --wrap for malloc, realloc and free; or, over memory of
- * the maker's own (etcs_memory.h), with OVER_PIECES and --wrap for rattle_alloc, rattle_realloc and rattle_dealloc, by which the proved
- * library asks. */
+ * A call that is refused memory says so and changes nothing that is reported; it is made once more. All else is as in a
+ * run without a refusal: each status, request, byte and output, and what the medium holds in the end. Only `open`, the
+ * inputs and the preview of a telegram, which is asked for before it is handed in, ask for memory, and after the life
+ * all of it is given back. Where the life meets no refusal the run fails. Built with --wrap for malloc, realloc and
+ * free; or, over memory of the maker's own (etcs_memory.h), with OVER_PIECES and --wrap for rattle_alloc,
+ * rattle_realloc and rattle_dealloc, by which the proved library asks. */
 #ifdef OVER_PIECES
 #include "etcs_memory.h"
 #include "heap.h"
@@ -115,19 +117,14 @@ static medium on = {bytes, 0};
 static etcs_unit unit;
 static unsigned refused_open, refused_inputs, refused_previews;
 
-/* Goes on with a digest of bytes (FNV-1a). */
-static void digest(uint64_t *to, const void *from, size_t len) {
-    for (size_t i = 0; i < len; i++)
-        *to = (*to ^ ((const uint8_t *)from)[i]) * UINT64_C(0x100000001B3);
-}
-
 /* Powers up: it asks for memory only where it begins, before anything is read. */
 static uint32_t powers_up(uint32_t cold) {
     etcs_unit_request_info next = {0, 0, 0};
     uint8_t none = 0;
     uint32_t status = etcs_unit_begin(&unit, on.len / ETCS_UNIT_SECTOR, cold);
     const unsigned long begun = asked;
-    while (status == ETCS_UNIT_OK && etcs_unit_request(&unit, &next, &none, 0) == ETCS_UNIT_OK && next.kind == ETCS_REQUEST_READ)
+    while (status == ETCS_UNIT_OK && etcs_unit_request(&unit, &next, &none, 0) == ETCS_UNIT_OK &&
+           next.kind == ETCS_REQUEST_READ)
         status = etcs_unit_provide(&unit, next.sector, on.bytes + next.sector * ETCS_UNIT_SECTOR, ETCS_UNIT_SECTOR);
     is("requests for memory of a power-up that began", asked - begun, 0);
     return status;
@@ -198,7 +195,7 @@ static uint32_t carries_out(uint64_t *to) {
 }
 
 static answer answer_to(const char *line) {
-    answer found = {0, UINT64_C(0xCBF29CE484222325)};
+    answer found = {0, DIGEST};
     uint32_t cold;
     const int opens = sscanf(line, "open %" SCNu32, &cold) == 1;
     const int flushes = strcmp(line, "flush") == 0, closes = strcmp(line, "close") == 0;

@@ -1,19 +1,9 @@
-/* A unit whose caller reads ahead and whose reads, writes and syncs fail, along with one that is opened by etcs_unit_open and whose reads are
- * answered at once: the same answers, requests and outputs, and after each flush, each loss of power and each failure the same medium. Inputs
- * come while a list is carried out. */
+/* A unit whose caller reads ahead and whose reads, writes and syncs fail, along with one that is opened by
+ * etcs_unit_open and whose reads are answered at once: the same answers, requests and outputs, and after each flush,
+ * each loss of power and each failure the same medium. Inputs come while a list is carried out. */
 #include "medium.h"
 
 enum { LIVES = 120, EVENTS = 60, SLOTS = 9 };
-
-static uint64_t drawn = 1;
-
-/* A number below `below`. */
-static uint32_t draw(uint32_t below) {
-    drawn ^= drawn << 13;
-    drawn ^= drawn >> 7;
-    drawn ^= drawn << 17;
-    return (uint32_t)((drawn >> 32) % below);
-}
 
 static uint32_t handed_in;
 
@@ -21,7 +11,8 @@ static uint32_t handed_in;
 static int is_to_read(etcs_unit *unit, uint64_t *sector) {
     static uint8_t bytes[ETCS_UNIT_REQUEST_BYTES];
     etcs_unit_request_info request;
-    const int is_read = etcs_unit_request(unit, &request, bytes, sizeof bytes) == ETCS_UNIT_OK && request.kind == ETCS_REQUEST_READ;
+    const int is_read =
+        etcs_unit_request(unit, &request, bytes, sizeof bytes) == ETCS_UNIT_OK && request.kind == ETCS_REQUEST_READ;
     *sector = is_read ? request.sector : UINT64_MAX;
     is("a read is of one sector", is_read ? request.sectors : 1, 1);
     return is_read;
@@ -92,7 +83,8 @@ static uint64_t last_written;
 /* Reads the gate of the next slot ahead: six sectors after the last one that was written, or else the first gate. */
 static void read_ahead(side *few) {
     const uint64_t next = last_written + 6, sector = next < few->on.len / ETCS_UNIT_SECTOR ? next : 1;
-    is("a sector is read ahead", etcs_unit_provide(&few->unit, sector, sector_of(&few->on, sector), ETCS_UNIT_SECTOR), ETCS_UNIT_OK);
+    is("a sector is read ahead", etcs_unit_provide(&few->unit, sector, sector_of(&few->on, sector), ETCS_UNIT_SECTOR),
+       ETCS_UNIT_OK);
 }
 
 /* Prepares, and answers the reads at once. */
@@ -119,7 +111,8 @@ static uint32_t prepared_once(side *few) {
     return status;
 }
 
-/* Carries out so many requests of the list, and a part of the next one, or all; those of both sides are the same. Whether that was all. */
+/* Carries out so many requests of the list, and a part of the next one, or all; those of both sides are the same.
+ * Whether that was all. */
 static int carried_out(side *plain, side *few, uint32_t most) {
     static uint8_t bytes[2][ETCS_UNIT_REQUEST_BYTES];
     etcs_unit_request_info request[2];
@@ -147,7 +140,8 @@ static int carried_out(side *plain, side *few, uint32_t most) {
     }
 }
 
-/* Carries out and releases on both sides, unless power is lost or the medium fails within some request; whether both go on. */
+/* Carries out and releases on both sides, unless power is lost or the medium fails within some request; whether both go
+ * on. */
 static int released(side *plain, side *few, int cut) {
     static etcs_unit_output outputs[2][ETCS_UNIT_OUTPUTS];
     uint32_t count[2] = {0, 0};
@@ -221,7 +215,8 @@ static void refusals(const medium *on) {
     medium bad = {(uint8_t *)malloc(on->len), on->len};
     etcs_unit unit = {NULL, 0};
     for (uint32_t i = 0; i < 600; i++) {
-        const uint32_t at = draw(4) ? draw(SLOTS) * 6 * ETCS_UNIT_SECTOR + draw(3 * ETCS_UNIT_SECTOR) : draw((uint32_t)bad.len);
+        const uint32_t at =
+            draw(4) ? draw(SLOTS) * 6 * ETCS_UNIT_SECTOR + draw(3 * ETCS_UNIT_SECTOR) : draw((uint32_t)bad.len);
         memcpy(bad.bytes, on->bytes, on->len);
         bad.len = draw(8) ? on->len : draw((uint32_t)on->len / ETCS_UNIT_SECTOR) * ETCS_UNIT_SECTOR;
         bad.bytes[draw(8) ? at : draw(40)] ^= (uint8_t)(1 + draw(255));

@@ -17,7 +17,6 @@ sys.path[:0] = [str(TOP / "tests" / "model"), str(TOP / "tests" / "etcs_lab")]
 
 import blocks  # noqa: E402
 import examined  # noqa: E402
-from journal import first_sector  # noqa: E402
 
 ETCS = os.environ.get("ETCS", str(TOP / "crates" / "etcs" / "out" / "etcs"))
 REFUSALS = {"refused 31 NotFormatted": "refused IMAGE_NOT_FORMATTED", "refused 32 Damaged": "refused IMAGE_DAMAGED"}
@@ -114,7 +113,7 @@ def head_line(block):
 
 def old_formats(folder):
     """An image with blocks of formats 1, 2 and 3, as older programs and this one leave them."""
-    made, event, path = [first_sector(5)], 0, Path(folder) / "formats"
+    made, event, path = [], 0, Path(folder) / "formats"
     for number, form in ((1, 1), (2, 1), (3, 2), (4, 3)):
         entries = []
         for value in range(8):
@@ -123,9 +122,8 @@ def old_formats(folder):
             event += 1
         changes = dict(trip=1, identity=b"A B", running=5, train=blocks.TRAIN, level=(1 if form == 3 else 2, 1),
                        position=(1 if form == 3 else 2, 1, 2, -16_316), countries=[1, 2, 1_023])
-        made.append(blocks.data_of(blocks.block(form, number, event, number, entries, **changes)))
-    made.insert(1, bytes(3_072))
-    path.write_bytes(b"".join(made))
+        made.append(blocks.block(form, number, event, number, entries, **changes))
+    path.write_bytes(blocks.image_of(5, made))
     return path
 
 

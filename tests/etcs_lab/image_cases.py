@@ -8,26 +8,10 @@ from pathlib import Path
 
 HERE = Path(__file__).resolve().parent
 sys.path.insert(0, str(HERE.parent / "model"))
-from blocks import block, data_of, entry, full, gate, head, record, with_  # noqa: E402
-
-SECTOR = 512
-SLOT = 6 * SECTOR
-NO_END = 2**32 - 1
+from blocks import NO_END, SECTOR, SLOT, block, data_of, entry, first_sector, full, gate, head, image_of, patched, record, shut, with_  # noqa: E402
 
 
 # ---- writing images
-
-def first_sector(slots, version=2):
-    return (b"ETCSJRU1" + version.to_bytes(4, "big") + slots.to_bytes(4, "big")).ljust(SECTOR, b"\0")
-
-
-def image_of(slots, held, version=2):
-    """An image of so many slots, with the bytes of some of them."""
-    image = bytearray(first_sector(slots, version) + bytes(SLOT * slots))
-    for slot, data in held.items():
-        image[SECTOR + SLOT * slot:SECTOR + SLOT * (slot + 1)] = data
-    return bytes(image)
-
 
 def blocks_of(last, form=3, per=2, life=4):
     """The blocks of a journal from 1 to a last number: a power-up every so many blocks, else so many clock events in each."""
@@ -51,15 +35,7 @@ def ring(slots, by_number, skip=()):
     return {n % slots: data_of(by_number[n]) for n in by_number if n > newest - slots and n not in skip}
 
 
-def patched(data, at, value):
-    return data[:at] + value + data[at + len(value):]
-
-
 # ---- the cases: a name and an image
-
-def shut(data):
-    return bytes(SECTOR) + data[SECTOR:]
-
 
 def states():
     """Each state of a slot, alone and along with others."""
@@ -259,10 +235,3 @@ def noise():
 
 
 GROUPS = (states, formats, lost, lives, cuts, altered, sizes, noise, given)
-
-
-def all_cases():
-    """A name, an image, and the number of slots that it is read to have, or none."""
-    for cases in GROUPS:
-        for name, image, *slots in cases():
-            yield name, image, slots[0] if slots else None

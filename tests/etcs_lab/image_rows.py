@@ -21,10 +21,10 @@ from pathlib import Path
 
 HERE = Path(__file__).resolve().parent
 sys.path[:0] = [str(HERE), str(HERE.parent), str(HERE.parent / "model")]
-from blocks import block, data_of, entry  # noqa: E402
+from blocks import SECTOR, SLOT, block, data_of, entry, first_sector, image_of, patched  # noqa: E402
 from compared import Compared, loaded, run, status_of_full  # noqa: E402
 from examined import examined, text_of  # noqa: E402
-from image_cases import GROUPS, SECTOR, SLOT, blocks_of, first_sector, image_of, patched, ring  # noqa: E402
+from image_cases import GROUPS, blocks_of, ring  # noqa: E402
 
 LEAST = 10_300
 NOBODY = 65_534

@@ -8,9 +8,10 @@ import sys
 import blocks
 import decoded
 import format_rows
-from journal import first_sector
+from blocks import SECTOR, image_of, image_with, patched, shut
 from program_rows import TOP, read
 from random_lists import Numbers
+from track_packets import data_of
 
 order = list(sys.path)
 sys.path.append(str(TOP / "tests/rows"))
@@ -18,16 +19,9 @@ from asking import rows_of  # noqa: E402
 
 sys.path[:] = order  # tests/model and tests/lab both have a module of rows of tables
 
-SECTOR = 512
 MODES = (0, 1, 2, 3, 4, 6, 7, 8, 9)
 MARKUP = (b'<b>"\\', b"\"", b"\\", b"\\u0041", b"</script>", b"a\\\\\"b", b"{\"end\":\"done\"", b"' ;--", b"&quot;&#34;", b"%s${x}`y`",
           b"\\n\\t", b"] , [", b" ", b"~" * 16)
-
-
-def slots_of(numbers_and_data, slots, first=None):
-    """An image of slots, each closed and empty but for these, which stand where these numbers belong."""
-    parts = {number % slots: data for number, data in numbers_and_data}
-    return (first or first_sector(slots)) + b"".join(parts.get(slot, bytes(6 * SECTOR)) for slot in range(slots))
 
 
 # ---- telegrams
@@ -74,8 +68,7 @@ def skipped(number, body_bits, q_dir="10"):
     """A telegram with a packet of this number, which is skipped."""
     bits = "1" + "0010000" + "0" + "000" + "000" + "00" + "11111111" + f"{1:010b}" + f"{2:014b}" + "0"
     bits += f"{number:08b}" + q_dir + f"{23 + body_bits:013b}" + "10" * (body_bits // 2) + "1" * (body_bits % 2) + "11111111"
-    bits = bits.ljust(-(-len(bits) // 8) * 8, "0")
-    return int(bits, 2).to_bytes(len(bits) // 8, "big")
+    return data_of(bits)
 
 
 def guarded():
@@ -148,21 +141,21 @@ def ring(numbers, known):
         data, how = blocks.data_of({**b, "lives": lives}), numbers.below(14)
         place = number
         if how == 0:
-            data = bytes(SECTOR) + data[SECTOR:]
+            data = shut(data)
         elif how == 1:
             at = SECTOR + numbers.below(5 * SECTOR)
-            data = data[:at] + bytes([data[at] ^ 1 << numbers.below(8)]) + data[at + 1:]
+            data = patched(data, at, bytes([data[at] ^ 1 << numbers.below(8)]))
         elif how == 2:
-            data = bytes([numbers.below(2)]) + data[1:SECTOR] + data[SECTOR:]
+            data = patched(data, 0, bytes([numbers.below(2)]))
         elif how == 3 and number > slots:
             continue
         elif how == 4:
             place = numbers.below(slots)
         elif how == 5:
             at = SECTOR * numbers.below(6)
-            data = data[:at] + bytes(SECTOR) + data[at + SECTOR:]
+            data = patched(data, at, bytes(SECTOR))
         parts.append((place, data))
-    return slots_of(parts, slots)
+    return image_of(slots, parts)
 
 
 # ---- all
@@ -197,8 +190,7 @@ def resized(numbers, image):
 def cut_images():
     """A ring whose run goes on from its last slot in its first, with so many sectors, from none to more than it has."""
     records = [("clock", k) for k in range(9)]
-    parts = [(number, blocks.data_of(blocks.block(3, number, 50 + number, 1, [blocks.entry(49 + number, records[number % 9])]))) for number in range(6, 11)]
-    image = slots_of(parts, 5)
+    image = image_of(5, [blocks.block(3, number, 50 + number, 1, [blocks.entry(49 + number, records[number % 9])]) for number in range(6, 11)])
     for sectors in range(len(image) // SECTOR + 9):
         yield f"{sectors} sectors of {len(image) // SECTOR}", image.ljust(sectors * SECTOR, b"\1")[:sectors * SECTOR]
 
@@ -219,16 +211,16 @@ def damaged_images():
         places += [2 * SECTOR + width * k + at for k in range(8) for at in (0, 3, 6, 8, 15, 23, width - 1)]
         for n in (2, 3):
             data = dict(whole)[n]
-            changed = [data[:at] + bytes([data[at] ^ 0x81]) + data[at + 1:] for at in places]
-            changed += [data[:SECTOR * k] + bytes(SECTOR) + data[SECTOR * (k + 1):] for k in range(6)]
+            changed = [patched(data, at, bytes([data[at] ^ 0x81])) for at in places]
+            changed += [patched(data, SECTOR * k, bytes(SECTOR)) for k in range(6)]
             for k, other in enumerate([data, *changed]):
                 name = f"format {form}, block {n} altered {k}"
                 if n == 2 or k % 3 == 0:
-                    yield name, slots_of([*whole, (n, other)], 4)
+                    yield name, image_of(4, [*whole, (n, other)])
                 if k % 3 == n - 2:
-                    yield f"{name} after a closed gate", slots_of([*whole, (n, bytes(SECTOR) + other[SECTOR:])], 4)
+                    yield f"{name} after a closed gate", image_of(4, [*whole, (n, shut(other))])
                 if k % 3 == n - 1:
-                    yield f"{name} in slot 0", slots_of([*whole, (4, other)], 4)
+                    yield f"{name} in slot 0", image_of(4, [*whole, (4, other)])
 
 
 def worked_images():
@@ -241,5 +233,4 @@ def worked_images():
     for form in (1, 2, 3):
         for k, event in enumerate(events):
             event = ("powerup", 0) if event[0] == "powerup" and form < 3 else event
-            b = blocks.block(form, 1, 1, 1, [blocks.entry(0, event)])
-            yield f"format {form}, event {k}", slots_of([(1, blocks.data_of(b))], 2)
+            yield f"format {form}, event {k}", image_with(event, form)

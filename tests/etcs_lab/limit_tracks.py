@@ -3,12 +3,13 @@ decides is taken away. Places are centimetres, speeds metres per hour."""
 from collections import namedtuple
 from dataclasses import replace
 
+from blocks import image_of
 from journal import block_of, event_of, record_of
 from life import Life
 from limit_reasons import targets_ahead
 from named import written
 from random_lists import Numbers
-from replay_rows import ends_of, image_of, parts
+from replay_rows import ends_of, parts
 from speed import Target
 
 FASTEST = 600_000

@@ -20,10 +20,11 @@ from pathlib import Path
 HERE = Path(__file__).resolve().parent
 TOP = HERE.parents[1]
 sys.path[:0] = [str(HERE), str(TOP / "tests"), str(TOP / "tests/model"), str(TOP / "tests/hostile"), str(TOP / "python")]
+from blocks import image_of  # noqa: E402
 from compared import Compared, objects, run, status_of_full  # noqa: E402
-from disk import SECTOR_BYTES, Disk  # noqa: E402
+from disk import Disk  # noqa: E402
 from format_rows import live  # noqa: E402
-from journal import Refused, first_sector, signs_of  # noqa: E402
+from journal import Refused, signs_of  # noqa: E402
 from onboard import MOST_PENDING, Unit  # noqa: E402
 from program import WORDS, event_of  # noqa: E402
 from random_lists import Numbers  # noqa: E402
@@ -107,9 +108,9 @@ class Case:
         printed, self.status = wanted_of(asked, lines)
         self.asked, self.end = asked, printed[-1]
         self.outputs = [{name: one[name] for name in OUTPUT} for one in printed[1:-1]]
-        disk = Disk([first_sector(slots)] + [bytes(SECTOR_BYTES)] * (6 * slots))
+        disk = Disk.of(image_of(slots))
         live(disk, asked)
-        self.image = b"".join(disk.held)
+        self.image = disk.data()
 
     def members(self):
         """What a line has."""
@@ -154,13 +155,13 @@ class Lives:
     def __init__(self, name, scenarios, slots, given):
         self.name, self.scenarios, self.slots, self.given = name, scenarios, slots, given
         self.asked = [one if given is None else one | {"cold": given} for one in scenarios]
-        disk = Disk([first_sector(slots)] + [bytes(SECTOR_BYTES)] * (6 * slots))
+        disk = Disk.of(image_of(slots))
         self.ends, self.outputs, self.images = [], [], []
         for one in self.asked:
             outputs, end = life_on(disk, one)
             self.outputs.append(outputs)
             self.ends.append(end)
-            self.images.append(b"".join(disk.held))
+            self.images.append(disk.data())
         self.status = max(end["status"] != "done" for end in self.ends)
 
     def members(self):

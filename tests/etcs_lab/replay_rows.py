@@ -7,7 +7,6 @@ output is worked out by the plain replay (tests/model/replay.py).
     tests/etcs_lab/replay_rows.py --table            print which altered fields are found, as in tests/etcs_lab/altered_fields.md
 """
 import json
-import subprocess
 import sys
 import tempfile
 from collections import Counter
@@ -16,19 +15,17 @@ from pathlib import Path
 HERE = Path(__file__).resolve().parent
 TOP = HERE.parents[1]
 sys.path[:0] = [str(TOP / "tests"), str(TOP / "tests/model"), str(TOP / "tests/hostile")]
-from blocks import data_of, with_  # noqa: E402
-from compared import lines_differ  # noqa: E402
+from blocks import SECTOR, SLOT, image_of, patched, with_  # noqa: E402
+from compared import Compared, lines_differ, run  # noqa: E402
 from disk import Disk  # noqa: E402
-from image_cases import patched  # noqa: E402
 from items import Kept  # noqa: E402
-from journal import COLD, block_of, event_of, first_sector, record_of  # noqa: E402
+from journal import COLD, block_of, event_of, record_of  # noqa: E402
 from life import Life  # noqa: E402
 from onboard import Unit  # noqa: E402
 from plain_images import lived  # noqa: E402
 from random_lists import SUPERVISION, Numbers, event  # noqa: E402
 from replay import replayed  # noqa: E402
 
-SECTOR, SLOT = 512, 6 * 512
 LEAST = 2_300  # so many images at least
 RANDOM = 60  # images of pseudo-random lives
 STARTED = ("hear 90007F802001506023A0E0190019427F80", "enter-identity A\"b\\c", "choose-level 1", "enter-running-number 4711",
@@ -36,27 +33,6 @@ STARTED = ("hear 90007F802001506023A0E0190019427F80", "enter-identity A\"b\\c", 
 
 
 # ---- images
-
-def bytes_of(disk):
-    return b"".join(disk.held)
-
-
-def formatted(slots):
-    return Disk([first_sector(slots)] + [bytes(SECTOR)] * (6 * slots))
-
-
-def image_of(slots, blocks):
-    """An image with these blocks in their slots."""
-    held = bytearray(bytes_of(formatted(slots)))
-    for block in blocks:
-        at = SECTOR + SLOT * (block["number"] % slots)
-        held[at:at + SLOT] = data_of(block)
-    return bytes(held)
-
-
-def on(data):
-    return Disk([data[at:at + SECTOR] for at in range(0, len(data), SECTOR)])
-
 
 def life_on(disk, word, inputs, flushes=5):
     """A life of the plain unit; a flush comes after so many inputs each."""
@@ -109,21 +85,21 @@ def ends_of(records, per, within):
 def examples():
     for folder in sorted((TOP / "examples").iterdir()):
         if (folder / "scenario.json").exists():
-            disk = formatted(16)
+            disk = Disk.of(image_of(16))
             for name in ("scenario.json", "restart.json"):
                 if (folder / name).exists():
                     lived(disk, json.loads((folder / name).read_text()))
-            yield f"example {folder.name}", bytes_of(disk)
+            yield f"example {folder.name}", disk.data()
 
 
 def random_lives():
     numbers = Numbers(4_127)
     for number in range(RANDOM):
         slots = numbers.one_of((2, 3, 4, 16, 64))
-        data = bytes_of(formatted(slots))
+        data = image_of(slots)
         if numbers.below(4) == 0:
             data = image_of(slots, blocks_of([("unknown", STARTED)], 1 + numbers.below(2))[-slots:])
-        disk = on(data)
+        disk = Disk.of(data)
         for _ in range(1 + numbers.below(4)):
             unit = Unit(disk, numbers.one_of(COLD))
             for _ in range(numbers.below(40)):
@@ -132,7 +108,7 @@ def random_lives():
                     unit.flush()
             if numbers.below(2):
                 unit.flush()
-        yield f"pseudo-random lives {number}", bytes_of(disk)
+        yield f"pseudo-random lives {number}", disk.data()
 
 
 TWO = [("unknown", STARTED), ("not-moved", ("confirm identity", "confirm train-data", "start", "move 100 50", "clock 9"))]
@@ -146,12 +122,12 @@ def formats():
         yield f"power-ups within blocks of format {form}", image_of(16, blocks_of(TWO, form, 8))
         yield f"power-ups within blocks of format {form}, overwritten", image_of(2, blocks_of(TWO, form, 8)[-2:])
     for form in (1, 2):
-        disk = on(image_of(16, blocks_of(TWO, form)))
+        disk = Disk.of(image_of(16, blocks_of(TWO, form)))
         life_on(disk, "not-moved", STARTED)
         life_on(disk, "not-moved", ("confirm identity", "confirm level", "start"))
-        yield f"format {form}, and then lives in format 3", bytes_of(disk)
-    yield "no block", bytes_of(formatted(4))
-    yield "a sector less", bytes_of(formatted(4))[:-SECTOR]
+        yield f"format {form}, and then lives in format 3", disk.data()
+    yield "no block", image_of(4)
+    yield "a sector less", image_of(4)[:-SECTOR]
     yield "no image", bytes(SECTOR * 25)
     yield "no sector", b""
 
@@ -257,28 +233,19 @@ def cases():
 
 
 def compare(words):
-    images = tried = differ = 0
+    compared, images = Compared(), 0
     with tempfile.TemporaryDirectory() as folder:
         image = Path(folder) / "image"
-        for name, data in cases():
-            images += 1
+        for images, (name, data) in enumerate(cases(), 1):
             image.write_bytes(data)
             wanted, text, lines = replayed(data)
-            for is_json in (False, True):
-                if is_json and name.startswith("altered") and tried % 8:
-                    continue
-                done = subprocess.run([*words, *(["--json"] if is_json else []), str(image)], stdin=subprocess.DEVNULL, capture_output=True, timeout=60)
-                tried += 1
-                found = done.stdout.decode()
-                differs = lines_differ(found, lines) if is_json else None if found == text else f"{found}--- wanted\n{text}"
-                if done.returncode != wanted or differs:
-                    differ += 1
-                    if differ <= 10:
-                        print(f"{name}: status {done.returncode}, wanted {wanted}\n{differs}")
-    print(f"replay: {images} images, {tried} comparisons, {differ} differ")
-    if images < LEAST:
-        print(f"too few images: {LEAST} are wanted")
-    return 1 if differ or images < LEAST else 0
+            compared.same(name, run(words, [image])[::2], (text, wanted))
+            if not name.startswith("altered") or compared.count % 8 == 0:
+                found, _, status = run(words, ["--json", image])
+                differs = lines_differ(found, lines)
+                compared.unless(status == wanted and not differs, f"{name}, JSON: status {status}, wanted {wanted}\n{differs}")
+    compared.unless(images >= LEAST, f"too few images: {LEAST} are wanted")
+    return compared.end(f"replay: {images} images, {compared.count} comparisons")
 
 
 def main(words):

@@ -12,7 +12,7 @@ from pathlib import Path
 
 HERE = Path(__file__).resolve().parent
 sys.path[:0] = [str(HERE), str(HERE.parent), str(HERE.parent / "model")]
-import compared  # noqa: E402
+from compared import Compared, lines_differ, run  # noqa: E402
 from examined import examined, text_of  # noqa: E402
 from image_cases import sizes, states  # noqa: E402
 from replay import replayed  # noqa: E402
@@ -59,35 +59,25 @@ def wanted(image):
     return status, text + lines + last + "\n", [examined(image)[0], *objects, {"check": {"whole": whole, "replay": word}}]
 
 
-def main(words):
-    met, differ, seen = Counter(), 0, set()
+def main(program):
+    rows, met, seen = Compared(), Counter(), set()
     with tempfile.TemporaryDirectory() as room:
         path = Path(room) / "image"
-
-        def run(*options):
-            text, said, status = compared.run(words[0], ["check", *options, path])
-            return status, text, said.count("\n")
-
         for name, image in images():
             path.write_bytes(image)
             status, text, objects = wanted(image)
             met[text.splitlines()[-1]] += 1
-            people, (code, json_text, said) = run(), run("--json")
-            same = people == (status, text, int(status == REFUSED)) and (code, said) == (status, int(status == REFUSED))
-            same = same and not compared.lines_differ(json_text, objects)
+            printed, said, code = run(program, ["check", path])
+            rows.same(name, (printed, said.count("\n"), code), (text, int(status == REFUSED), status))
             if name in BY_HAND:
                 seen.add(name)
-                same = same and (people[0], people[1].splitlines()[-1]) == BY_HAND[name]
-            if not same:
-                differ += 1
-                if differ <= 5:
-                    print(f"check of {name}:\n{people}\n--- wanted\n{(status, text)}")
-    print(f"check: {sum(met.values())} images, {differ} differ; of each last line {sorted(met.values())}")
+                rows.same(f"{name}, by hand", (code, *printed.splitlines()[-1:]), BY_HAND[name])
+            printed, said, code = run(program, ["check", "--json", path])
+            rows.same(f"{name}, JSON", (lines_differ(printed, objects), said.count("\n"), code), (None, int(status == REFUSED), status))
     few = sum(met.values()) < LEAST or len(met) < 5 or seen != set(BY_HAND)
-    if few:
-        print(f"too little was tried: {sorted(met)}, by hand {sorted(set(BY_HAND) - seen)} are missing")
-    return 1 if differ or few else 0
+    rows.unless(not few, f"too little was tried: {sorted(met)}, by hand {sorted(set(BY_HAND) - seen)} are missing")
+    return rows.end(f"check: {rows.count} comparisons of {sum(met.values())} images; of each last line {sorted(met.values())}")
 
 
 if __name__ == "__main__":
-    sys.exit(main(sys.argv[1:]))
+    sys.exit(main(sys.argv[1]))

@@ -14,16 +14,18 @@ from pathlib import Path
 
 HERE = Path(__file__).resolve().parent
 sys.path[:0] = [str(HERE), *(str(HERE.parents[1] / part) for part in ("tests", "tests/model", "tests/hostile"))]
+from blocks import image_of  # noqa: E402
 from compared import Compared, is_same, lines_differ, objects, run  # noqa: E402
 from demand_rows import DEMANDS_AS_JSON, DEMANDS_BY_HAND  # noqa: E402
 from group_rows import GROUPS_AS_JSON, GROUPS_BY_HAND  # noqa: E402
+from disk import Disk  # noqa: E402
 from group_words import KINDS as GROUP_KINDS  # noqa: E402
 from journal import COLD  # noqa: E402
 from limit_reasons import KINDS  # noqa: E402
 from limit_tracks import BY_HAND as LIMITS_BY_HAND, FAST, LEVEL, TRAIN, authority, forces, heard, inputs_of, tracks, unanswered, without  # noqa: E402
 from onboard import Unit  # noqa: E402
 from random_lists import SUPERVISION, TRACK, Numbers, event  # noqa: E402
-from replay_rows import blocks_of, bytes_of, damaged, examples, formats, formatted, image_of, on, parts, random_lives  # noqa: E402
+from replay_rows import blocks_of, damaged, examples, formats, parts, random_lives  # noqa: E402
 from why import TRIPS, WORDS, explained, walk_of  # noqa: E402
 
 LEAST = 2_000  # so many images at least
@@ -129,7 +131,7 @@ def more_lives():
     numbers = Numbers(9_311)
     for number in range(RANDOM):
         telegrams = TRACK + SUPERVISION[:2] if number % 3 == 0 else SUPERVISION
-        disk = on(bytes_of(formatted(64)))
+        disk = Disk.of(image_of(64))
         least, more = (20, 60) if number < LONG else (5, 30)
         for _ in range(1 + numbers.below(3)):
             unit = Unit(disk, numbers.one_of(COLD))
@@ -138,7 +140,7 @@ def more_lives():
                 if len(unit.pending) == 8 or numbers.below(5) == 0:
                     unit.flush()
             unit.flush()
-        yield f"pseudo-random causes {number}", bytes_of(disk)
+        yield f"pseudo-random causes {number}", disk.data()
 
 
 def images():

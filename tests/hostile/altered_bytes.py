@@ -9,7 +9,8 @@ from pathlib import Path
 
 from built import SECTOR, SLOT, STAFF_RESPONSIBLE, formatted, run_program, room
 from compared import Compared
-from plain_images import bytes_of, disk_of, listed, lived
+from disk import Disk
+from plain_images import listed, lived
 
 SLOTS = 4
 NEXT = {"groups": [], "steps": [{"clock": 5}]}
@@ -21,8 +22,8 @@ def values(byte):
 
 
 def wanted_by_plain(data):
-    disk = disk_of(data)
-    return listed(data), lived(disk, NEXT), bytes_of(disk) + data[len(disk.held) * SECTOR:]
+    disk = Disk.of(data)
+    return listed(data), lived(disk, NEXT), disk.data() + data[len(disk.held) * SECTOR:]
 
 
 class Altered:

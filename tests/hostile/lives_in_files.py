@@ -14,12 +14,12 @@ import sys
 from pathlib import Path
 
 from built import SECTOR, built, recorded_by, room, sectors_of
+from blocks import image_of
 from compared import Compared
 from disk import SECTOR_BYTES, Disk
 from items import Kept
-from journal import first_sector
 from life import Life
-from plain_images import bytes_of, kept_on, lived
+from plain_images import kept_on, lived
 from random_inputs import Made
 from random_lists import Numbers
 
@@ -149,7 +149,7 @@ def life(name, scenario, disk, folder, record, failures):
     wrong = list(wrong_calls(recorded))
     failures.unless(not wrong, f"{name}: {', '.join(wrong[:3])}")
     failures.unless(story_of(recorded).parts == disk.story.parts, f"{name}: between two syncs other sectors are written, or a line is printed before the end")
-    failures.unless(image.read_bytes() == bytes_of(disk), f"{name}: the file holds other bytes")
+    failures.unless(image.read_bytes() == disk.data(), f"{name}: the file holds other bytes")
     return len(recorded)
 
 
@@ -163,8 +163,8 @@ def main(words):
             if number % LIVES == 0:
                 slots = 2 + numbers.below(MOST_SLOTS - 1)
                 formats(folder / "image", slots, record, failures)
-                disk = RecordedDisk([first_sector(slots)] + [bytes(SECTOR)] * 6 * slots)
-                failures.unless((folder / "image").read_bytes() == bytes_of(disk), f"life {number}: an image that was made holds other bytes")
+                disk = RecordedDisk.of(image_of(slots))
+                failures.unless((folder / "image").read_bytes() == disk.data(), f"life {number}: an image that was made holds other bytes")
             scenario = Made(numbers, Known(kept_on(disk) or Kept())).scenario()
             calls += life(f"life {number}", scenario, disk, folder, record, failures)
     return failures.end(f"lives in files: {count} lives, {calls} calls of the file and lines")

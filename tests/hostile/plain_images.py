@@ -1,5 +1,4 @@
 """What the program answers over the bytes of an image, and what it leaves there, worked out by the plain unit over the plain disk."""
-from built import SECTOR
 from disk import Disk
 from journal import Journal, Refused, kept_in, read_block
 from onboard import MOST_PENDING, Unit
@@ -7,17 +6,9 @@ from onboard_rows import record_text
 from program import WORDS, event_of, inputs_of, released
 
 
-def disk_of(data):
-    return Disk([data[at:at + SECTOR] for at in range(0, len(data) - SECTOR + 1, SECTOR)])
-
-
-def bytes_of(disk):
-    return b"".join(disk.held)
-
-
 def listed(data):
     """Status and text of a listing. It has the longest unbroken run of valid blocks up to the greatest number."""
-    disk = disk_of(data)
+    disk = Disk.of(data)
     try:
         journal = Journal(disk)
     except Refused as refused:
@@ -33,7 +24,7 @@ def listed(data):
 
 def kept_on(disk):
     """What the newest block keeps; None where there is no block."""
-    found = Journal(disk_of(bytes_of(disk))).found
+    found = Journal(Disk.of(disk.data())).found
     return found and kept_in(found)
 
 

@@ -24,8 +24,8 @@ from gaknifur.__main__ import main as lab  # noqa: E402
 from gaknifur.journal import layout
 from gaknifur.journal.reading import read  # noqa: E402
 from gaknifur.testing import case_runner, cases  # noqa: E402
-from image_cases import patched  # noqa: E402
-from replay_rows import SECTOR, SLOT, blocks_of, examples, formats, image_of, random_lives  # noqa: E402
+from blocks import SECTOR, SLOT, image_of, patched  # noqa: E402
+from replay_rows import blocks_of, examples, formats, random_lives  # noqa: E402
 
 LEAST = 45
 """So many cases at least."""

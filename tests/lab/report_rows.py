@@ -20,10 +20,10 @@ TOP = HERE.parents[1]
 sys.path[:0] = [str(HERE), *(str(TOP / part) for part in ("python", "tests", "tests/etcs_lab", "tests/model"))]
 
 import gaknifur.__main__  # noqa: E402
+from blocks import block, entry, image_of  # noqa: E402
 from gaknifur.journal import braking, reading, tables  # noqa: E402
 from gaknifur.journal.extent import Bound, Extent  # noqa: E402
 from compared import Compared  # noqa: E402
-from images import blocks, slots_of  # noqa: E402
 from table_rows import page_faults, page_of  # noqa: E402
 
 LONG, MOST_SECONDS, MOST_BYTES = 100_000, 900, 3_000_000  # (the seconds only guard against no end)
@@ -169,15 +169,15 @@ def long_image(events):
         way = speed // 36
         place += way if number else 0
         event = ("powerup", 0) if number == 0 else ("clock", 500 * number) if number % 2 else ("odometer", min(way, 10_000), speed)
-        records.append(blocks.entry(number, event, moment=500 * (number - 1 + number % 2) if number else 0, mode=0, level=1,
+        records.append(entry(number, event, moment=500 * (number - 1 + number % 2) if number else 0, mode=0, level=1,
                                     brake=2 if is_fast or number == 0 else 0, ind=64 if is_fast else 0, estimate=place, uncertainty=500,
                                     limit=1_000 if is_fast else 130_000))
     parts = [records[:1]] + [records[at:at + RECORDS] for at in range(1, events, RECORDS)]
     data, done = [], 0
     for number, part in enumerate(parts, 1):
         done += len(part)
-        data.append((number, blocks.data_of(blocks.block(3, number, done, 1, part))))
-    return slots_of(data, len(parts) + 1)
+        data.append(block(3, number, done, 1, part))
+    return image_of(len(parts) + 1, data)
 
 
 def braked(rows):

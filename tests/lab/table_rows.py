@@ -23,9 +23,10 @@ from collections import Counter
 from pathlib import Path
 
 TOP = Path(__file__).resolve().parents[2]
-sys.path[:0] = [str(TOP / part) for part in ("python", "tests", "tests/etcs_lab", "tests/model", "tests/etcs_lab")]
+sys.path[:0] = [str(TOP / part) for part in ("python", "tests", "tests/etcs_lab", "tests/model")]
 
 import pandas as pd  # noqa: E402
+from blocks import image_with  # noqa: E402
 from compared import Compared  # noqa: E402
 from gaknifur import program  # noqa: E402
 from gaknifur.journal import _words, causes, database, reading, report, tables  # noqa: E402
@@ -34,7 +35,7 @@ from replay import replayed  # noqa: E402
 from replay_rows import damaged, examples, formats, random_lives  # noqa: E402
 from why import WORDS, explained, walk_of  # noqa: E402
 from why_rows import more_lives  # noqa: E402
-from images import MARKUP, blocks, random_images, slots_of  # noqa: E402
+from images import MARKUP, random_images  # noqa: E402
 from journal import SIGNS  # noqa: E402
 from event_lines import Refused, image_lines  # noqa: E402
 
@@ -446,9 +447,7 @@ def markup_stays_text(room):
     plain = None
     for text in (b"IC 704", *MARKUP, b"<script>1</scr>", b"<img src=x>", b"'\"><b2>x</b2>", b"{{ 7*7 }}", b"{% raw %}", b"$\\frac{1}{2}$"):
         text = text[:16]
-        b = blocks.block(3, 1, 1, 1, [blocks.entry(0, ("driver", b"\1" + text))])
-        b["identity"] = text
-        path.write_bytes(slots_of([(1, blocks.data_of(b))], 2))
+        path.write_bytes(image_with(("driver", b"\1" + text), identity=text))
         path = path.rename(Path(room) / "<b>&amp;'\"")
         page = page_of(report.page(reading.read(path, replay=True)))
         plain = plain or page.elements

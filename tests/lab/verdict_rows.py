@@ -21,7 +21,7 @@ sys.path[:0] = [str(TOP / part) for part in ("python", "tests", "tests/model", "
 from compared import Compared  # noqa: E402
 from gaknifur import program  # noqa: E402
 from gaknifur.__main__ import main as lab  # noqa: E402
-from image_cases import image_of, patched, ring  # noqa: E402
+from blocks import image_of, patched  # noqa: E402
 from replay import replayed  # noqa: E402
 from replay_rows import STARTED, altered as altered_fields, blocks_of, examples  # noqa: E402
 
@@ -54,8 +54,8 @@ def altered(rows, room):
 def implausible(rows, room):
     """Readings say standstill, and the train moved: no replay finds it, and physics does."""
     image = room / "implausible"
-    by_number = {block["number"]: block for block in blocks_of([("unknown", (*STARTED, *["move 2000 0"] * 4))], 3)}
-    image.write_bytes(image_of(max(by_number) + 2, ring(max(by_number) + 2, by_number)))
+    blocks = blocks_of([("unknown", (*STARTED, *["move 2000 0"] * 4))], 3)
+    image.write_bytes(image_of(len(blocks) + 2, blocks))
     text, _, status = run("check", image)
     rows.same("lab check", (status, MOVED in text), (4, True))
     sentence = next(line for line in text.splitlines() if line.startswith(MOVED))

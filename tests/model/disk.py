@@ -17,6 +17,14 @@ class Disk:
         self.cut_any = self.fail_any = None  # .. of the call in which power is lost, or which fails once
         self.is_dead = False
 
+    @classmethod
+    def of(cls, data):
+        """A disk with the sectors of an image."""
+        return cls([data[at:at + SECTOR_BYTES] for at in range(0, len(data) - SECTOR_BYTES + 1, SECTOR_BYTES)])
+
+    def data(self):
+        return b"".join(self.held)
+
     def goes_wrong(self, is_change):
         """Whether this call answers a fault; it may also be the one in which power is lost."""
         call, change = self.calls, self.changes

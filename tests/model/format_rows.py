@@ -12,9 +12,10 @@ import sys
 from pathlib import Path
 
 sys.path.append(str(Path(__file__).resolve().parents[1] / "etcs_lab"))
+from blocks import image_of, patched
 from disk import SECTOR_BYTES, Disk
 from examined import listing
-from journal import Journal, Refused, first_sector, read_block
+from journal import Journal, Refused, read_block
 from onboard import MOST_PENDING, Unit
 from program import WORDS, Image, event_of, inputs_of
 from program_rows import TOP, read, text_of
@@ -51,27 +52,27 @@ def listings(case):
         word, *words = shlex.split(line.rest)
         if word == "format":
             slots = int(words[1])
-            disks[words[0]] = Disk([first_sector(slots)] + [bytes(SECTOR_BYTES)] * (6 * slots))
+            disks[words[0]] = Disk.of(image_of(slots))
             images[words[0]] = Image(slots)
         elif word == "run":
             scenario = json.loads(texts[words[0]])
             images[words[1]].run(scenario)
             live(disks[words[1]], scenario)
         elif word == "journal":
-            yield line.number, b"".join(disks[words[0]].held), images[words[0]].listing()
+            yield line.number, disks[words[0]].data(), images[words[0]].listing()
 
 
 def damaged(image):
     """The image with each slot closed, with each head unreadable, with another first sector, and with a sector less or more."""
     for slot in range(SECTOR_BYTES, len(image), 6 * SECTOR_BYTES):
-        yield image[:slot + GATE] + bytes(SECTOR_BYTES) + image[slot + SECTOR_BYTES:]
-        yield image[:slot + LAST_OF_HEAD] + b"\1" + image[slot + LAST_OF_HEAD + 1:]
+        yield patched(image, slot + GATE, bytes(SECTOR_BYTES))
+        yield patched(image, slot + LAST_OF_HEAD, b"\1")
     yield from (b"X" + image[1:], image[:-SECTOR_BYTES], image + bytes(SECTOR_BYTES), image + b"\1", image[:-1], b"")
 
 
 def found(image, lines):
     """Those of the lines whose blocks the plain journal finds, and the status."""
-    disk = Disk([image[at:at + SECTOR_BYTES] for at in range(0, len(image) - SECTOR_BYTES + 1, SECTOR_BYTES)])
+    disk = Disk.of(image)
     try:
         journal = Journal(disk)
     except Refused as refused:

@@ -4,7 +4,7 @@ from functools import lru_cache
 import blocks
 import rows
 from disk import SECTOR_BYTES, Disk
-from journal import BRAKES, KINDS, MODES, Journal, Refused, first_sector, kept_in, read_block
+from journal import BRAKES, KINDS, MODES, Journal, Refused, kept_in, read_block
 from onboard import Unit
 from row_lines import Group, combined, digest_of, ranged
 
@@ -50,7 +50,7 @@ class Session:
         self.disk, self.unit = disk, None
 
     def do_format(self, slots):
-        self.set_disk(Disk([first_sector(int(slots))] + [bytes(SECTOR_BYTES)] * 6 * int(slots)))
+        self.set_disk(Disk.of(blocks.image_of(int(slots))))
 
     def do_less(self):
         self.set_disk(Disk(self.disk.settled().held[:-1]))

@@ -2,23 +2,17 @@
 
 Each line is a list of pairs of name and value, so that duplicate names and a wrong order are found.
 """
-import struct
-
 from functools import cache
 
 import blocks
 import decoded
 import demand_words
 import track_packets
-from journal import BRAKES, read_block, record_in, signs_of, slots_in, valid_number
+from blocks import SECTOR
+from journal import BRAKES, COLD, read_block, record_in, signs_of, slots_in, valid_number
+from replay import MODE_WORDS, input_of, run_of
 
-SECTOR = 512
 FORMATS = {mark: form for form, mark in blocks.MARKS.items()}
-MODES = {0: "FS", 1: "OS", 2: "SR", 3: "SH", 4: "UN", 6: "SB", 7: "TR", 8: "PT", 9: "SF"}
-WORDS = ("unknown", "moved", "not_moved")
-ITEMS = {1: "identity", 2: "running_number", 3: "train_data", 4: "level"}
-REASONS = {1: "trip", 2: "on_sight", 3: "shunting", 4: "level_0"}
-PLAIN = {6: "start", 7: "choose_shunting", 8: "leave_shunting", 9: "override", 11: "close_desk"}
 FARTHEST = 2**62
 KNOWN, INFILL = (3, 5, 12, 21, 27, 41, 65, 66, 80), 136
 """The packets that the kernel knows (docs/explain/conformance.md), and the one after which none is used."""
@@ -28,8 +22,14 @@ class Refused(Exception):
     """The image is refused: no line is printed."""
 
 
+def snake(word):
+    return word.replace("-", "_")
+
+
 # ---- a record
 
+SAID = {"enter-identity": ("identity", str), "enter-running-number": ("running_number", int), "choose-level": ("chosen_level", int),
+        "confirm": ("confirmed", snake), "acknowledge": ("acknowledged", snake)}
 HEADER_BITS, HEAD_BITS = 50, 23
 
 
@@ -88,32 +88,24 @@ def demands(data, number, before):
     """.. by the telegram of an event of this number; None where the record before isn't that of the event before."""
     if before is None or before["number"] + 1 != number:
         return None
-    return demanded(data, MODES[before["mode"]], "overridden" in signs_of(before["ind"]))
+    return demanded(data, MODE_WORDS[before["mode"]], "overridden" in signs_of(before["ind"]))
 
 
 def action_members(data):
-    code, rest = data[0], data[1:]
-    if code == 1:
-        return [("action", "enter_identity"), ("identity", rest.decode("ascii"))]
-    if code == 2:
-        return [("action", "enter_running_number"), ("running_number", int.from_bytes(rest, "big"))]
-    if code == 3:
-        length, maximum, deceleration, reaction, category = struct.unpack(">IIHHB", rest)
-        return [("action", "enter_train_data"), ("length_cm", length), ("maximum_m_per_h", maximum), ("category", category),
-                ("deceleration_cm_per_s2", deceleration), ("reaction_ms", reaction)]
-    if code == 4:
-        return [("action", "choose_level"), ("chosen_level", rest[0])]
-    if code == 5:
-        return [("action", "confirm"), ("confirmed", ITEMS[rest[0]])]
-    if code == 10:
-        return [("action", "acknowledge"), ("acknowledged", REASONS[rest[0]])]
-    return [("action", PLAIN[code])]
+    word, value = input_of(("driver", data))
+    action = [("action", snake(word))]
+    if word == "enter-train-data":
+        length, maximum, deceleration, reaction, category = map(int, value.split())
+        return action + [("length_cm", length), ("maximum_m_per_h", maximum), ("category", category),
+                         ("deceleration_cm_per_s2", deceleration), ("reaction_ms", reaction)]
+    name, of = SAID.get(word, (None, None))
+    return action + ([(name, of(value))] if name else [])
 
 
 def event_members(event, number, before):
     kind, *values = event
     if kind == "powerup":
-        return [("word", WORDS[values[0]])]
+        return [("word", snake(COLD[values[0]]))]
     if kind == "telegram":
         return [("telegram", values[0].hex()), ("decoded", telegram_members(values[0])),
                 ("unused", unused_packets(values[0])), ("demands", demands(values[0], number, before))]
@@ -142,7 +134,7 @@ def line_of(r, form, source, block, byte, life, before=None):
     """The line of a record that begins at this byte of the image, after this record of the journal or of its block."""
     return ([("source", source)] if source else []) + [
         ("block", block), ("byte", byte), ("event", r["number"]), ("life", life),
-        ("kind", r["event"][0]), ("time_ms", r["moment"]), ("mode", MODES[r["mode"]]),
+        ("kind", r["event"][0]), ("time_ms", r["moment"]), ("mode", MODE_WORDS[r["mode"]]),
         ("level", None if r["level"] == 255 else r["level"]), ("brake", BRAKES[r["brake"]]),
         ("indications", signs_of(r["ind"])),
         *place_members(r, form), *event_members(r["event"], r["number"], before)]
@@ -191,14 +183,8 @@ def image_lines(image, all_blocks):
     if slots is None:
         raise Refused("NotFormatted")
     there = min(slots, (sectors - 1) // 6)
-    numbers = {0}
-    for slot in range(there):
-        at = SECTOR * (1 + 6 * slot)
-        numbers.add(valid_number(image[at:at + SECTOR], image[at + SECTOR:at + 2 * SECTOR], slot, slots))
-    newest = max(numbers)
-    first = newest + 1
-    while first > 1 and first - 1 in numbers:
-        first -= 1
+    numbers = run_of(image, slots, there)
+    first, newest = numbers.start, numbers.stop - 1
     run = [("first_block", first), ("newest_block", newest)] if newest else [("first_block", None), ("newest_block", None)]
     journal, parts, others, last, whole = {}, {}, [], [], sectors == 1 + 6 * slots
     for step in range(slots):

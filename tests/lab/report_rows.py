@@ -170,8 +170,8 @@ def long_image(events):
         place += way if number else 0
         event = ("powerup", 0) if number == 0 else ("clock", 500 * number) if number % 2 else ("odometer", min(way, 10_000), speed)
         records.append(entry(number, event, moment=500 * (number - 1 + number % 2) if number else 0, mode=0, level=1,
-                                    brake=2 if is_fast or number == 0 else 0, ind=64 if is_fast else 0, estimate=place, uncertainty=500,
-                                    limit=1_000 if is_fast else 130_000))
+                             brake=2 if is_fast or number == 0 else 0, ind=64 if is_fast else 0, estimate=place, uncertainty=500,
+                             limit=1_000 if is_fast else 130_000))
     parts = [records[:1]] + [records[at:at + RECORDS] for at in range(1, events, RECORDS)]
     data, done = [], 0
     for number, part in enumerate(parts, 1):

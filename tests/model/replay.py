@@ -192,7 +192,7 @@ class Walk:
         slots = slots_in(data[:SECTOR_BYTES]) if len(data) >= SECTOR_BYTES else None
         if slots is None or len(data) // SECTOR_BYTES != 1 + SLOT_SECTORS * slots:
             return False
-        for number in run_of(data, slots):
+        for number in run_of(data, slots, slots):
             at = SECTOR_BYTES * (1 + SLOT_SECTORS * (number % slots))
             self.block(number, data[at:at + SECTOR_BYTES * SLOT_SECTORS])
         self.end_run()
@@ -242,16 +242,16 @@ class Replay(Walk):
         return WHOLE if self.is_whole else LOST, *forms_of(self.lines)
 
 
-def run_of(data, slots):
-    """The numbers of the blocks that are retained."""
+def run_of(data, slots, there):
+    """The numbers of the blocks that are retained, where the image has so many of its slots."""
     def sector(number):
         return data[SECTOR_BYTES * number:SECTOR_BYTES * (number + 1)]
 
-    numbers = {valid_number(sector(1 + SLOT_SECTORS * slot), sector(2 + SLOT_SECTORS * slot), slot, slots) for slot in range(slots)}
-    first = max(numbers) + 1
+    numbers = {valid_number(sector(1 + SLOT_SECTORS * slot), sector(2 + SLOT_SECTORS * slot), slot, slots) for slot in range(there)}
+    first = max(numbers, default=0) + 1
     while first > 1 and first - 1 in numbers:
         first -= 1
-    return range(first, max(numbers) + 1)
+    return range(first, max(numbers, default=0) + 1)
 
 
 def replayed(data):

@@ -1,6 +1,6 @@
 #!/usr/bin/env python3
-"""A journal on a disk that another file fills, on ext4 with blocks of 1 kB and of 4 kB over a loop device: a format has taken each byte of the file, so a
-life that writes each slot finds its place; and a format that finds no place says so.
+"""A journal on a disk that another file fills, on ext4 with blocks of 1 kB and of 4 kB over a loop device: a format has
+taken each byte of the file, so a life that writes each slot finds its place; and a format that finds no place says so.
 
     full_disk.py LIFE    LIFE is tests/c_unit/life.c with the library. $GAKNIFUR_ETCS_UNIT names the library for Python
 
@@ -10,8 +10,6 @@ import errno
 import os
 import subprocess
 import sys
-import tempfile
-from contextlib import contextmanager
 from pathlib import Path
 
 TOP = Path(__file__).resolve().parents[2]
@@ -19,34 +17,12 @@ sys.dont_write_bytecode = True
 sys.path[:0] = [str(TOP / "python"), str(TOP / "tests"), str(TOP / "tests/hostile")]
 
 from compared import Compared  # noqa: E402
-from failed_syncs_on_ext4 import NotHere, had, must  # noqa: E402
+from failed_syncs_on_ext4 import NotHere, file_system  # noqa: E402
 from gaknifur.unit import FileMedium, Unit  # noqa: E402
 
 NAME = "a full disk"
 SIZE, SLOTS, FLUSHES = 8 << 20, 600, 700  # of 8 MB the file has 1.8, and each slot is written
 DEVICE = 3  # how life.c ends where a file fails
-
-
-@contextmanager
-def file_system(block):
-    """A folder on an ext4 with blocks of so many bytes, none of them kept for root."""
-    if os.geteuid() != 0:
-        raise NotHere("it needs root")
-    with tempfile.TemporaryDirectory() as name:
-        device, folder = Path(name) / "device", Path(name) / "mounted"
-        folder.mkdir()
-        device.touch()
-        os.truncate(device, SIZE)
-        loop = had("losetup", "--find", "--show", str(device))
-        try:
-            had("mkfs.ext4", "-q", "-F", "-b", str(block), "-m", "0", "-O", "^has_journal", loop)
-            had("mount", loop, str(folder))
-            try:
-                yield folder
-            finally:
-                must("umount", "--lazy", str(folder))
-        finally:
-            must("losetup", "--detach", loop)
 
 
 def holes_of(path):
@@ -106,8 +82,9 @@ def main(life):
     rows = Compared()
     try:
         for block in (1024, 4096):
-            for language, formats, lives in (("C", formats_in_c, lives_in_c), ("Python", formats_in_python, lives_in_python)):
-                with file_system(block) as folder:
+            for language, formats, lives in (("C", formats_in_c, lives_in_c),
+                                             ("Python", formats_in_python, lives_in_python)):
+                with file_system(SIZE, block, "-m", "0") as (_, folder):
                     what, image = f"{language}, blocks of {block}", folder / "image"
                     rows.same(f"{what}: a format", formats(life, image, SLOTS), 0)
                     rows.same(f"{what}: bytes without a place", holes_of(image), 0)

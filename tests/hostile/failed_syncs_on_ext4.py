@@ -1,7 +1,7 @@
 #!/usr/bin/env python3
-"""A sync that fails on a real file system: ext4 over a loop device that is cut off while one sync of a life runs, each in turn. The image is
-settled (tools/settle). After two more lives power is lost (the file system is unmounted, so that only what is on the medium is left), and what
-was released is listed.
+"""A sync that fails on a real file system: ext4 over a loop device that is cut off while one sync of a life runs, each
+in turn. The image is settled (tools/settle). After two more lives power is lost (the file system is unmounted, so that
+only what is on the medium is left), and what was released is listed.
 
 It needs root, a loop device and mkfs.ext4. Where one of these can't be had it says so, in one line, and ends with 0.
 """
@@ -20,7 +20,7 @@ from built import TOP, built, formatted, run_program, recorded_by
 from compared import Compared
 from failed_syncs import BATCHES, is_kept, released_in
 
-SLOTS, LIVES = 8, 6  # so many lives first that each slot is used, and each block of the file has its place on the device
+SLOTS, LIVES = 8, 6  # the lives use each slot first, so that each block of the file has its place on the device
 BLOCK = 4096
 FIBMAP = 1
 NO_LIMIT = 98  # how record.c ends where the device can't be cut off
@@ -50,18 +50,18 @@ def must(*words):
 
 
 @contextmanager
-def file_system():
-    """A loop device with an ext4 without a journal, mounted, and its folder."""
+def file_system(size, block, *options):
+    """A loop device of so many bytes, with an ext4 without a journal of such blocks, mounted, and its folder."""
     if os.geteuid() != 0:
         raise NotHere("it needs root")
     with tempfile.TemporaryDirectory() as name:
         device, folder = Path(name) / "device", Path(name) / "mounted"
         folder.mkdir()
         device.touch()
-        os.truncate(device, 16 << 20)
+        os.truncate(device, size)
         loop = had("losetup", "--find", "--show", str(device))
         try:
-            had("mkfs.ext4", "-q", "-F", "-b", str(BLOCK), "-O", "^has_journal", loop)
+            had("mkfs.ext4", "-q", "-F", "-b", str(block), "-O", "^has_journal", *options, loop)
             had("mount", loop, str(folder))
             try:
                 yield loop, folder
@@ -76,15 +76,15 @@ def first_byte_of(image):
     with image.open("rb") as file:
         count = -(-image.stat().st_size // BLOCK)
         try:
-            places = [struct.unpack("I", fcntl.ioctl(file, FIBMAP, struct.pack("I", block)))[0] for block in range(count)]
+            places = [struct.unpack("I", fcntl.ioctl(file, FIBMAP, struct.pack("I", at)))[0] for at in range(count)]
         except OSError as error:
             raise NotHere(f"the system doesn't report where a file lies: {error.strerror}") from error
     return min(place for place in places if place) * BLOCK
 
 
 def fails_at(number, loop, folder, record, failures):
-    """A life whose sync of this number runs on the device that is cut off, two more, and a loss of power. Whether it has so many, and whether that
-    sync failed."""
+    """A life whose sync of this number runs on the device that is cut off, two more, and a loss of power. Whether it
+    has that many, and whether that sync failed."""
     image, scenario = folder / "image", folder.parent / "scenario"
     limit = {"RECORD_FAILS_AT": str(number), "RECORD_LIMIT": f"{loop} {first_byte_of(image)}"}
     (status, text), calls = recorded_by(record, image, ["run", scenario, image], **limit)
@@ -100,14 +100,15 @@ def fails_at(number, loop, folder, record, failures):
         released += released_in(text)
     must("umount", str(folder))
     must("mount", loop, str(folder))
-    failures.unless(is_kept(run_program(["journal", image]), released, SLOTS), f"sync {number}: not all that was released is listed after a loss of power")
+    failures.unless(is_kept(run_program(["journal", image]), released, SLOTS),
+                    f"sync {number}: not all that was released is listed after a loss of power")
     return len(syncs) >= number, "f" in syncs
 
 
 def main():
     failures, record, failed = Compared(), built("record"), 0
     try:
-        with file_system() as (loop, folder):
+        with file_system(16 << 20, BLOCK) as (loop, folder):
             image = folder / "image"
             (folder.parent / "scenario").write_text(json.dumps(BATCHES))
             formatted(image, SLOTS)

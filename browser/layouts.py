@@ -1,4 +1,4 @@
-"""Writes layouts.ts for tools/page: the structs of the headers as the page reads them, with the offsets of gaknifur.units._header,
+"""Writes layouts.ts for tools/page: the structs of the headers as the page reads them, with the offsets of gaknifur._header,
 and the words and texts of modes, brakes, indications and causes that the package has too."""
 import ctypes
 import json
@@ -9,8 +9,8 @@ from pathlib import Path
 
 TOP = Path(__file__).resolve().parent.parent
 sys.path.insert(0, str(TOP / "python"))
+from gaknifur import _header  # noqa: E402
 from gaknifur.journal import _words, causes, wording  # noqa: E402
-from gaknifur.units import _header  # noqa: E402
 
 FILE = TOP / "browser/layouts.ts"
 # Each struct: its reader, its interface, its name in C, and its members. `name=c_name` has another name in C, `name?` is true or false,

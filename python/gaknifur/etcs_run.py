@@ -6,8 +6,8 @@ from pathlib import Path
 from typing import Any, NamedTuple
 
 from . import program
+from ._header import Indication
 from .program import REFUSED, Failed
-from .units._header import Indication
 
 CARRIED_OUT = "carried out"
 NUMBER = "(0|[1-9][0-9]*)"

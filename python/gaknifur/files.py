@@ -11,7 +11,7 @@ from dataclasses import dataclass
 from pathlib import Path
 from typing import BinaryIO
 
-from .journal import layout
+from . import layout
 from .program import DEVICE, REFUSED, Failed, naming
 
 try:

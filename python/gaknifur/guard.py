@@ -12,10 +12,9 @@ import ctypes
 from collections.abc import Iterator
 from dataclasses import dataclass
 
-from . import unit
+from . import _header, unit
+from ._header import Demanded, Direction, Fault, Finding, GuardPolicy, Sureness
 from .unit import Brake, Mode, Refused, Status
-from .units import _header
-from .units._header import Demanded, Direction, Fault, Finding, GuardPolicy, Sureness
 
 __all__ = ["Demand", "Demanded", "Direction", "Fault", "Finding", "Guard", "GuardPolicy", "Sureness", "demands"]
 

@@ -14,10 +14,9 @@ from collections.abc import Iterator
 from dataclasses import dataclass
 from pathlib import Path
 
-from . import unit
+from . import _header, unit
+from ._header import BrakeCause, Datum, KeptField, LimitCause, RecordField, TripCause, Verdict
 from .unit import Brake, Kept, Record, Refused, Status
-from .units import _header
-from .units._header import BrakeCause, Datum, KeptField, LimitCause, RecordField, TripCause, Verdict
 
 __all__ = ["BrakeCause", "Datum", "Difference", "Kept", "KeptField", "LimitCause", "Line", "RecordField", "TripCause",
            "Verdict", "Why", "lines", "replay", "why", "why_at", "why_in"]

@@ -14,13 +14,16 @@ import tempfile
 from collections.abc import Generator, Iterator, Sequence
 from dataclasses import dataclass
 from pathlib import Path
+from typing import Any
 
-from .journal import layout
+from . import layout
 
 WHOLE, REFUSED, WRONG_WORDS, DEVICE, NOT_WHOLE = range(5)
 FOUND = NOT_WHOLE
 """The exit statuses, which mean the same in each program (docs/reference/refusals.md, Exit statuses). 4 is a finding, in an image or elsewhere."""
 PROCESSORS = os.cpu_count() or 1
+Json = dict[str, Any]
+"""An object of JSON."""
 MEMORY, MANY = Path("/dev/shm"), 64
 """The folder that Linux keeps in memory, and how many images have to fit into it before it is used for one."""
 

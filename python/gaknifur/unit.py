@@ -26,13 +26,12 @@ from dataclasses import dataclass
 from pathlib import Path
 from typing import Protocol, Self
 
+from . import _header
+from ._header import (ABI, BUILD_INFO_BYTES, CATEGORY_NONE, OUTPUTS, REQUEST_BYTES, SECTOR, TELEGRAM_BYTES, VERSION_BYTES, Acknowledgement, Action,
+                      Brake, BrakeCause, Cold, Datum, Direction, Fault, GroupOutcome, Indication, Kind, Level, LimitCause, Mode, Proof, Reaction,
+                      Refusal, RequestKind, SlotState, Status, TelegramOutcome, UnusedReason)
 from .files import lock
 from .program import TOP
-from .units import _header
-from .units._header import (ABI, BUILD_INFO_BYTES, CATEGORY_NONE, OUTPUTS, REQUEST_BYTES, SECTOR, TELEGRAM_BYTES, VERSION_BYTES, Acknowledgement,
-                            Action, Brake, BrakeCause, Cold, Datum, Direction, Fault, GroupOutcome,
-                            Indication, Kind, Level, LimitCause, Mode, Proof, Reaction, Refusal, RequestKind, SlotState, Status,
-                            TelegramOutcome, UnusedReason)
 
 __all__ = ["ABI", "CATEGORY_NONE", "OUTPUTS", "REQUEST_BYTES", "SECTOR", "VERSION_BYTES", "Acknowledgement", "Action", "Brake",
            "BrakeCause", "ClosedGroup", "Cold", "Datum", "Facts", "Fault", "FileMedium", "GroupOutcome", "Indication", "Kept", "Kind",

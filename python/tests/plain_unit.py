@@ -4,8 +4,8 @@ import sys
 from pathlib import Path
 from typing import Any
 
-from gaknifur.simulation.driving import MODES
 from gaknifur.unit import Action, Brake, Indication, Level, Output, TrainData
+from gaknifur.units.protocol import MODES
 
 sys.path.append(str(Path(__file__).resolve().parents[2] / "tests/model"))
 CODES = {code: mode for mode, code in MODES.items()}

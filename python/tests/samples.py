@@ -5,7 +5,8 @@ from pathlib import Path
 from typing import Any
 
 from gaknifur.journal._words import CAUSES
-from gaknifur.journal.reading import Journal, Json
+from gaknifur.journal.reading import Journal
+from gaknifur.program import Json
 
 AUTHORITY: Json = {
     "header": {"Q_UPDOWN": 1, "M_VERSION": 16, "Q_MEDIA": 0, "N_PIG": 0, "N_TOTAL": 1, "M_DUP": 0, "M_MCOUNT": 255,

@@ -2,7 +2,7 @@
 import unittest
 
 from gaknifur.journal.braking import flat, measures, parts, promised_cm, promised_curve, row, rows
-from gaknifur.journal.reading import Json
+from gaknifur.program import Json
 
 from .samples import AUTHORITY, record
 

@@ -16,13 +16,12 @@ from types import SimpleNamespace
 from typing import Any
 from unittest.mock import patch
 
+from gaknifur.cases import soundness
 from gaknifur.cli import campaign_commands
 from gaknifur.etcs_run import output_of, read_lines
-from gaknifur.journal.reading import Json
-from gaknifur.program import Failed
-from gaknifur.simulation import campaign, campaign_jobs, campaign_table, random_lives
-from gaknifur.simulation.campaign import Job, Row
-from gaknifur.testing import soundness
+from gaknifur.program import Failed, Json
+from gaknifur.search import campaign, campaign_jobs, campaign_table, random_lives
+from gaknifur.search.campaign import Job, Row
 
 from .samples import AUTHORITY, InFolder, journal, record
 

@@ -11,15 +11,17 @@ from types import SimpleNamespace
 from typing import Any
 from unittest.mock import patch
 
+from gaknifur.cases import case_runner, cases
+from gaknifur.cases.case_runner import Missed, Played, with_speeds, with_trains
 from gaknifur.cli import drive_commands
 from gaknifur.program import Failed
 from gaknifur.simulation import closed_loop, drives, driving
 from gaknifur.simulation.drives import Drive, Driver, Train
 from gaknifur.simulation.driving import Driven, Driving, Loop, Motion, Row
-from gaknifur.testing import case_runner, cases
-from gaknifur.testing.case_runner import Missed, Played, with_speeds, with_trains
-from gaknifur.testing.scenarios import Scenario
+from gaknifur.simulation.scenarios import Scenario
 from gaknifur.unit import Brake, Indication, Level, Mode, Output
+from gaknifur.units import own_unit
+from gaknifur.units.protocol import MODES
 from gaknifur.yaml_files import document
 
 from .plain_unit import PlainUnit
@@ -65,7 +67,7 @@ def plain_lines(digits: str) -> list[str]:
 
 def output_members(output: Output) -> dict[str, Any]:
     """An output as a record says it."""
-    return {"mode": driving.MODES[output.mode], "level": None if output.level.value > 1 else output.level.value,
+    return {"mode": MODES[output.mode], "level": None if output.level.value > 1 else output.level.value,
             "brake": driving.BRAKES[output.brake], "limit_m_per_h": output.limit_m_per_h,
             "indications": [one.name.lower() for one in output.indications if one.name]}
 
@@ -388,8 +390,8 @@ class Library(unittest.TestCase):
             with self.subTest(mark=mark), tempfile.TemporaryDirectory() as folder, contextlib.redirect_stderr(io.StringIO()) as errors:
                 path = Path(folder, "libetcs_unit.so")
                 path.write_bytes(b"\x7fELF" + mark + b"\0")
-                with patch("gaknifur.simulation.closed_loop.library", lambda: SimpleNamespace(_name=str(path))):
-                    closed_loop.check_library.__wrapped__()
+                with patch("gaknifur.units.own_unit.library", lambda: SimpleNamespace(_name=str(path))):
+                    own_unit.check_library.__wrapped__()
                 self.assertEqual(errors.getvalue(), f"lab: this run is unproved: {path} was compiled without proof\n" if is_named else "")
 
 

@@ -15,17 +15,19 @@ from unittest.mock import patch
 
 import click
 
-from gaknifur import files
+from gaknifur import files, layout
 from gaknifur.__main__ import main
 from gaknifur.cli import drive_commands
 from gaknifur.cli.commands import lab
 from gaknifur.files import Out
-from gaknifur.journal import database, layout, tables
+from gaknifur.journal import database, tables
 from gaknifur.program import DEVICE, REFUSED, Failed
-from gaknifur.simulation import campaign, campaign_table, closed_loop, drives
+from gaknifur.search import campaign, campaign_table
+from gaknifur.simulation import closed_loop, drives
 from gaknifur.simulation.driving import Driven
-from gaknifur.testing.scenarios import Scenario
+from gaknifur.simulation.scenarios import Scenario
 from gaknifur.unit import Medium, MemoryMedium
+from gaknifur.units import own_unit
 
 from .samples import InFolder, journal, record
 
@@ -296,7 +298,7 @@ class Images(Room):
         self.assertEqual((image.read_bytes(), self.names()), (IMAGE * 2, ["a.yaml", "image", "image.identity"]))
 
     def test_the_unit_s_library_is_looked_for_first(self) -> None:
-        with patch.object(closed_loop, "library", side_effect=OSError("none")), self.assertRaisesRegex(Failed, "tools/library --unproved PREFIX"):
+        with patch.object(own_unit, "library", side_effect=OSError("none")), self.assertRaisesRegex(Failed, "tools/library --unproved PREFIX"):
             closed_loop.on_medium(MemoryMedium(IMAGE), self.scenario, self.drive)
 
 

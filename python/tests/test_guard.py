@@ -10,8 +10,8 @@ from typing import Any
 
 from gaknifur.guard import Demand, Demanded, Direction, Fault, Finding, Guard, GuardPolicy, Sureness, demands
 from gaknifur.journal.demands import rows
-from gaknifur.journal.reading import Json
-from gaknifur.testing import telegrams
+from gaknifur.program import Json
+from gaknifur.telegrams import telegrams
 from gaknifur.unit import Brake, Mode, Refused
 
 from .samples import journal, record

@@ -3,8 +3,8 @@ import tempfile
 import unittest
 from pathlib import Path
 
-from gaknifur.evidence import identity
-from gaknifur.evidence.identity import Identity
+from gaknifur.journal import identity
+from gaknifur.journal.identity import Identity
 from gaknifur.program import Failed
 
 TEXT = "unit: 17\nvehicle: 402 001\n\nsoftware: 2.3.0\n"

@@ -4,8 +4,8 @@ import unittest
 from pathlib import Path
 from typing import Any
 
-from gaknifur.testing import course
-from gaknifur.testing.scenarios import Scenario
+from gaknifur.simulation.scenarios import Scenario
+from gaknifur.track import course
 from gaknifur.yaml_files import document
 
 TRACK = Scenario(groups=[{"at": 150, "spacing": 300, "balises": ["AA", "BB"]}, {"at": 10_300, "spacing": 1, "balises": ["CC"]}],

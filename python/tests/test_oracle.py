@@ -12,11 +12,11 @@ import unittest
 from pathlib import Path
 from unittest.mock import patch
 
+from gaknifur.cases import case_runner, cases, oracle
 from gaknifur.cli import search_commands
-from gaknifur.journal.reading import Json
-from gaknifur.program import Failed
-from gaknifur.testing import case_runner, cases, properties
-from gaknifur.units import oracle, protocol, sandbox
+from gaknifur.program import Failed, Json
+from gaknifur.search import properties
+from gaknifur.units import protocol, sandbox
 from gaknifur.units.other_unit import Broken, OtherUnit, words_of
 
 from .samples import action, reading, record

@@ -5,7 +5,7 @@ from collections.abc import Callable
 
 from gaknifur.journal import plausibility
 from gaknifur.journal.plausibility import Thresholds, judge
-from gaknifur.journal.reading import Json
+from gaknifur.program import Json
 
 from .samples import AUTHORITY, record
 

@@ -10,7 +10,7 @@ from unittest.mock import patch
 from gaknifur.journal import reading
 from gaknifur.journal.reading import Journal, Records, read
 from gaknifur.program import Failed, etcs, find, proof
-from gaknifur.simulation import campaign_table
+from gaknifur.search import campaign_table
 
 from .samples import InFolder, journal, line, record
 

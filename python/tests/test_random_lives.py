@@ -9,11 +9,11 @@ import sys
 import unittest
 from pathlib import Path
 
-from gaknifur.simulation import random_lives
-from gaknifur.testing import telegrams
+from gaknifur.search import random_lives
+from gaknifur.telegrams import telegrams
 
 LIVES = 500
-PRINT = "import hashlib, random\nfrom gaknifur.simulation import random_lives\n" \
+PRINT = "import hashlib, random\nfrom gaknifur.search import random_lives\n" \
     f"print(hashlib.sha256(b''.join(random_lives.scenario(random.Random(f'3/{{at}}')) for at in range({LIVES}))).hexdigest())"
 
 

@@ -14,8 +14,8 @@ from gaknifur.journal import braking, charts, database, report, summary, verdict
 from gaknifur.journal._words import CAUSES
 from gaknifur.journal.extent import Extent, bound
 from gaknifur.journal.part import Part
-from gaknifur.journal.reading import Journal, Json
-from gaknifur.program import Failed
+from gaknifur.journal.reading import Journal
+from gaknifur.program import Failed, Json
 
 from .samples import AUTHORITY, InFolder, action, journal, line, reading, record
 

@@ -6,7 +6,7 @@ from pathlib import Path
 
 from gaknifur.cli.search_commands import names_of, report_held
 from gaknifur.program import Failed
-from gaknifur.testing import properties
+from gaknifur.search import properties
 
 LONG = "while the train stands and nothing has been heard of a track for a long time"
 

@@ -2,7 +2,8 @@
 import os
 import unittest
 
-from gaknifur.journal import layout, sizes, verdict
+from gaknifur import layout
+from gaknifur.journal import sizes, verdict
 from gaknifur.journal.reading import check_size, read
 from gaknifur.program import REFUSED, Failed
 

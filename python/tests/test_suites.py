@@ -9,12 +9,14 @@ from pathlib import Path
 from unittest.mock import patch
 
 from gaknifur.__main__ import main
+from gaknifur.cases import case_files, case_runner, cases, coverage
+from gaknifur.cases.case_runner import Missed, Played, with_speeds
+from gaknifur.cases.cases import derived
+from gaknifur.cases.mode_table import page, table_rows
 from gaknifur.etcs_run import Released
 from gaknifur.program import REFUSED, AllFailed, Failed
-from gaknifur.testing import case_files, case_runner, cases, coverage, scenarios, telegrams
-from gaknifur.testing.case_runner import Missed, Played, with_speeds
-from gaknifur.testing.cases import derived
-from gaknifur.testing.mode_table import page, table_rows
+from gaknifur.simulation import scenarios
+from gaknifur.telegrams import telegrams
 from gaknifur.yaml_files import document
 
 from .samples import InFolder, reading, record

@@ -15,11 +15,11 @@ from unittest import mock
 
 import gaknifur
 from gaknifur import lives, unit as units
+from gaknifur._header import Direction, Fault, Proof, RequestKind, Source, StatusKind, UnusedReason
 from gaknifur.lives import BrakeCause, Datum, KeptField, LimitCause, RecordField, TripCause, Verdict
-from gaknifur.unit import (Acknowledgement, Action, Brake, ClosedGroup, Cold, FileMedium, GroupOutcome, Indication, Kept, Kind, Level,
-                           MemoryMedium, Mode, Output, Preview, Reaction, Record, Refusal, Refused, SlotState, Status, TelegramOutcome,
-                           TrainData, Unit, UnitDriver, UnitWhy, Waiting)
-from gaknifur.units._header import Direction, Fault, Proof, RequestKind, Source, StatusKind, UnusedReason
+from gaknifur.unit import (Acknowledgement, Action, Brake, ClosedGroup, Cold, FileMedium, GroupOutcome, Indication, Kept, Kind, Level, MemoryMedium,
+                           Mode, Output, Preview, Reaction, Record, Refusal, Refused, SlotState, Status, TelegramOutcome, TrainData, Unit,
+                           UnitDriver, UnitWhy, Waiting)
 
 TOP = Path(__file__).resolve().parents[2]
 INCLUDE = TOP / "c/include"

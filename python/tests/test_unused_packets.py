@@ -4,7 +4,7 @@ import sqlite3
 import unittest
 
 from gaknifur.journal import database, summary, tables, unused_packets, wording
-from gaknifur.journal.reading import Json
+from gaknifur.program import Json
 
 from .samples import AUTHORITY, journal, record
 

@@ -3,7 +3,7 @@ import unittest
 
 from gaknifur.journal import why
 from gaknifur.journal.causes import DIFFERS, REASONS
-from gaknifur.journal.reading import Json
+from gaknifur.program import Json
 
 from .samples import journal, line
 from .test_braking import SLOWING, braked

@@ -18,16 +18,16 @@ from unittest.mock import patch
 
 
 from gaknifur.__main__ import main
+from gaknifur.cases import case_runner
+from gaknifur.cases.case_runner import Keep, Played, with_speeds
+from gaknifur.cases.cases import Case
 from gaknifur.cli.commands import COMPLETE, SECTIONS, Command, lab
 from gaknifur.cli.progress import Terminal
 from gaknifur.journal._words import CAUSES, LIMIT_CAUSES, TRIP_CAUSES
 from gaknifur.journal.plausibility import Thresholds
-from gaknifur.journal.reading import Json
 from gaknifur.journal.wording import INDICATIONS
 from gaknifur.lives import BrakeCause, LimitCause, TripCause
-from gaknifur.testing import case_runner
-from gaknifur.testing.case_runner import Keep, Played, with_speeds
-from gaknifur.testing.cases import Case
+from gaknifur.program import Json
 from gaknifur.unit import Indication
 from gaknifur.units.other_unit import WITHIN_S
 

@@ -11,7 +11,7 @@ TOP = Path(__file__).resolve().parents[2]
 sys.path[:0] = [str(TOP / "tests"), str(TOP / "python")]
 
 from compared import Compared  # noqa: E402
-from gaknifur.testing import telegrams  # noqa: E402
+from gaknifur.telegrams import telegrams  # noqa: E402
 from gaknifur.unit import Action, MemoryMedium, TrainData, Unit  # noqa: E402
 
 FIRST = ("NID_BG 2; 5: D_LINK 300, Q_NEWCOUNTRY 0, NID_BG 3, Q_LINKORIENTATION 1, Q_LINKREACTION 1, Q_LOCACC 5, N_ITER 0; 12: V_MAIN 32, L_ENDSECTION 2000; "

@@ -1,5 +1,5 @@
 #!/usr/bin/env python3
-"""Compares sizes and offsets of the structs in C with those of python/gaknifur/units/_header.py.
+"""Compares sizes and offsets of the structs in C with those of python/gaknifur/_header.py.
 
     tests/c_unit/layout.py --program    print a C program that prints them from the headers
     tests/c_unit/layout.py PROGRAM..    compare what this program prints, built in several ways
@@ -10,7 +10,7 @@ import sys
 from pathlib import Path
 
 sys.path.insert(0, str(Path(__file__).resolve().parents[2] / "python"))
-from gaknifur.units import _header  # noqa: E402
+from gaknifur import _header  # noqa: E402
 
 LEAST = 227
 PROGRAM = """#include <stddef.h>

@@ -20,7 +20,7 @@ sys.path[:0] = [str(TOP / "tests/hostile"), str(TOP / "tests/model"), str(TOP / 
 
 from built import PROGRAM, Releases, built, calls_of, room  # noqa: E402
 from compared import Compared  # noqa: E402
-from gaknifur.simulation import random_lives  # noqa: E402
+from gaknifur.search import random_lives  # noqa: E402
 from program import inputs_of  # noqa: E402
 from random_inputs import headed, mutated  # noqa: E402
 

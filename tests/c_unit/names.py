@@ -17,7 +17,7 @@ TOP = Path(__file__).resolve().parents[2]
 sys.path[:0] = [str(TOP / part) for part in ("python", "tests")]
 
 from compared import Compared  # noqa: E402
-from gaknifur.units import _header  # noqa: E402
+from gaknifur import _header  # noqa: E402
 
 MODES = {"FULL_SUPERVISION": "FS", "ON_SIGHT": "OS", "STAFF_RESPONSIBLE": "SR", "SHUNTING": "SH", "UNFITTED": "UN", "STAND_BY": "SB", "TRIP": "TR",
          "POST_TRIP": "PT", "SYSTEM_FAILURE": "SF"}

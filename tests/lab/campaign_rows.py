@@ -22,7 +22,7 @@ WAIT = 300  # seconds, on a busy machine
 LIVES_BOTH_WAYS = 60
 sys.path.insert(0, str(TOP / "python"))
 from gaknifur.playing import ended, play  # noqa: E402
-from gaknifur.simulation import random_lives  # noqa: E402
+from gaknifur.search import random_lives  # noqa: E402
 
 failed = 0
 

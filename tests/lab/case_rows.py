@@ -20,10 +20,10 @@ TOP = Path(__file__).resolve().parents[2]
 sys.path[:0] = [str(TOP / part) for part in ("python", "tests", "tests/model", "tests/etcs_lab")]
 
 from compared import Compared  # noqa: E402
+from gaknifur import layout
 from gaknifur.__main__ import main as lab  # noqa: E402
-from gaknifur.journal import layout
+from gaknifur.cases import case_runner, cases  # noqa: E402
 from gaknifur.journal.reading import read  # noqa: E402
-from gaknifur.testing import case_runner, cases  # noqa: E402
 from blocks import SECTOR, SLOT, image_of, patched  # noqa: E402
 from replay_rows import blocks_of, examples, formats, random_lives  # noqa: E402
 

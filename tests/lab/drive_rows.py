@@ -21,10 +21,11 @@ DRIVES = TOP / "examples/closed_loop"
 sys.path[:0] = [str(TOP / "python"), str(TOP / "tests")]
 from compared import Compared  # noqa: E402
 from gaknifur import program  # noqa: E402
+from gaknifur.cases import case_files, case_runner, cases, coverage  # noqa: E402
 from gaknifur.cli import drive_commands  # noqa: E402
 from gaknifur.simulation import closed_loop, drives, driving  # noqa: E402
-from gaknifur.testing import case_files, case_runner, cases, coverage  # noqa: E402
 from gaknifur.unit import Brake, FileMedium, Unit  # noqa: E402
+from gaknifur.units import own_unit  # noqa: E402
 
 SWAPPED = {Brake.NONE: Brake.EMERGENCY, Brake.SERVICE: Brake.SERVICE, Brake.EMERGENCY: Brake.NONE}
 FLUSH, MOVE, READ, DUE = Unit.flush, driving.Motion.move, driving.Loop.read, driving.Motion.due
@@ -172,7 +173,7 @@ class Driven(Compared):
 
 def main(etcs, etcs_lab):
     os.environ |= {"GAKNIFUR_ETCS": str(Path(etcs).resolve()), "GAKNIFUR_ETCS_LAB": str(Path(etcs_lab).resolve())}
-    closed_loop.check_library()
+    own_unit.check_library()
     found, table = coverage.all_cases(DRIVES), coverage.mode_table()
     wrong = list(missed(found, table))
     for one in wrong:

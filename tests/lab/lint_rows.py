@@ -17,7 +17,8 @@ from pathlib import Path
 
 TOP = Path(__file__).resolve().parents[2]
 sys.path.insert(0, str(TOP / "python"))
-from gaknifur.testing import lint, scenario_faults, track_checks  # noqa: E402
+from gaknifur.cases import scenario_faults  # noqa: E402
+from gaknifur.track import lint, track_checks  # noqa: E402
 
 LEAST_ROWS, LEAST_ITEMS, LEAST_CASES = 77, 28, 247
 HEAD = """test_case: NAME

@@ -20,10 +20,10 @@ from hypothesis import strategies as st
 TOP = Path(__file__).resolve().parents[2]
 sys.path.insert(0, str(TOP / "python"))
 from gaknifur import etcs_run, program  # noqa: E402
+from gaknifur.cases import case_runner  # noqa: E402
 from gaknifur.journal import causes  # noqa: E402
 from gaknifur.journal.reading import read  # noqa: E402
-from gaknifur.simulation import random_lives  # noqa: E402
-from gaknifur.testing import case_runner  # noqa: E402
+from gaknifur.search import random_lives  # noqa: E402
 
 EXAMPLES, LEAST_TRIPS, LEAST_RECORDS = 80, 3, 1_200
 EMERGENCY = ("not_revalidated", "in_trip", "in_system_failure", "owes_trip", "far_too_fast", "rolled_too_far")

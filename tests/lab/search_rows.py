@@ -17,8 +17,9 @@ from pathlib import Path
 
 TOP = Path(__file__).resolve().parents[2]
 sys.path.insert(0, str(TOP / "python"))
+from gaknifur.cases import case_runner, cases, mode_table  # noqa: E402
 from gaknifur.journal.wording import MODES  # noqa: E402
-from gaknifur.testing import case_runner, cases, mode_table, properties, search, strategies  # noqa: E402
+from gaknifur.search import properties, search, strategies  # noqa: E402
 
 EXAMPLES, SEED, MOST_STEPS, FEW, LEAST_ALTERED = 200, 1, 12, 3, 20
 LAW_EXAMPLES, LEAST_RECORDS, LEAST_OF_MODE = 200, 2_500, 100

@@ -21,8 +21,9 @@ from pathlib import Path
 TOP = Path(__file__).resolve().parents[2]
 sys.path.insert(0, str(TOP / "python"))
 from gaknifur import program  # noqa: E402
+from gaknifur.cases import oracle  # noqa: E402
 from gaknifur.journal.reading import read  # noqa: E402
-from gaknifur.units import oracle, own_unit, protocol, sandbox  # noqa: E402
+from gaknifur.units import own_unit, protocol, sandbox  # noqa: E402
 from gaknifur.units.other_unit import OtherUnit  # noqa: E402
 
 WITHIN_S, HANGS_S, LEAST = 60.0, 8.0, 30

@@ -18,7 +18,7 @@ sys.path[:0] = [str(TESTS), str(TESTS / "c_unit"), str(TESTS / "hostile"), str(T
 
 from compared import Compared  # noqa: E402
 from lives import LIVES, scenario_of, slots_of, word_of  # noqa: E402
-from gaknifur.units import _header  # noqa: E402
+from gaknifur import _header  # noqa: E402
 from program import inputs_of  # noqa: E402
 from random_inputs import headed, mutated  # noqa: E402
 

@@ -5,7 +5,7 @@ A telegram is written as its header and its packets, one after another: `NID_BG 
 V_TSR 4; 66: NID_TSR 8`. The fields of a packet stand in their order, each by its name; of the header and of a packet's head only
 unusual values are written. L_PACKET is computed where it isn't given. A packet that is only a number has only its head.
 
-The widths are in python/gaknifur/testing/telegrams.py too, on purpose: what tests write doesn't come from the program that they test.
+The widths are in python/gaknifur/telegrams/telegrams.py too, on purpose: what tests write doesn't come from the program that they test.
 """
 import re
 

@@ -10,7 +10,7 @@ from asking import image
 from browsing import Browser
 from desks import TOP
 from gaknifur import program
-from gaknifur.testing import telegrams
+from gaknifur.telegrams import telegrams
 
 sys.path.append(str(TOP / "tests/model"))
 import decoded  # noqa: E402

@@ -6,7 +6,7 @@ from typing import Any
 
 from browsing import Browser
 from desks import START, TELEGRAMS, image_of, saved
-from gaknifur.testing.telegrams import telegram
+from gaknifur.telegrams.telegrams import telegram
 from tracks import open_scenario
 
 STOP = "137: Q_DIR {}, Q_SRSTOP 0"

@@ -10,7 +10,8 @@ from typing import Any
 from browsing import Browser
 from desks import EXAMPLES, START, TELEGRAMS, TOP, board, etcs, image_of, name_of, random_groups, random_steps, saved
 from gaknifur import program
-from gaknifur.testing import cases, telegrams
+from gaknifur.cases import cases
+from gaknifur.telegrams import telegrams
 from selenium.webdriver.common.action_chains import ActionChains
 
 OPENED, FAULTY, NEAR = 12, 160, 68

@@ -9,7 +9,7 @@ from .. import files
 from ..errors import INTERRUPTED
 from ..escaping import shown
 from ..program import FOUND, REFUSED, WRONG_WORDS, Failed
-from ..simulation import campaign, campaign_table
+from ..search import campaign, campaign_table
 
 if TYPE_CHECKING:
     from ..journal.reading import Progress

@@ -127,7 +127,7 @@ class Checks(click.Option):
 
     def get_help_record(self, context: click.Context) -> tuple[str, str] | None:
         """Its row in the help."""
-        from ..testing import track_checks
+        from ..track import track_checks
         self.help = f"skip this check: {', '.join(map(str, track_checks.ITEMS))}"
         return super().get_help_record(context)
 
@@ -276,7 +276,7 @@ TESTING = [
     Command("coverage", "cli.testing_commands:show_coverage", "List the sections and transitions that the cases of a folder cover",
             "Status 4: a section or transition of the product has neither a case nor a reason why not.", "coverage suites",
             Argument("folder", "FOLDER", "a folder or a file with test cases")),
-    Command("lint", "testing.lint:lint", "List faults and weak points of scenarios and test cases",
+    Command("lint", "track.lint:lint", "List faults and weak points of scenarios and test cases",
             "Names the place of each fault of a scenario in JSON, and runs the checks of docs/explain/safety.md. A case that is meant to show an item lists it "
             "under `shows`. Status 3: something was not judged, since the unit's library is missing. Status 4: something was found.", "lint suites --without 33",
             Argument("paths", "FILE...", "a scenario in JSON or YAML, test cases, or a folder", nargs=-1, required=True), JSON_LINES,

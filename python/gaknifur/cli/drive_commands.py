@@ -8,14 +8,14 @@ from types import SimpleNamespace
 
 from .. import files
 from ..escaping import shown
-from ..evidence import identity
+from ..journal import identity
 from ..journal.reading import Progress
 from ..program import DEVICE, REFUSED, WRONG_WORDS, Failed
-from ..simulation import driving
-from ..simulation.closed_loop import check_library, ends_of, fresh, on_medium, over_image
+from ..simulation import driving, scenarios
+from ..simulation.closed_loop import ends_of, fresh, on_medium, over_image
 from ..simulation.drives import Drive, read
-from ..testing import scenarios
 from ..unit import FileMedium
+from ..units.own_unit import check_library
 
 COLUMNS = ("time_ms", "first_event", "event", "place_cm", "speed_m_per_h", "limit_m_per_h", "above_m_per_h", "brake", "mode",
            "braking_cm_per_s2")

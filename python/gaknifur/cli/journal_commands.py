@@ -32,7 +32,7 @@ def note(journal: Journal) -> int:
 
 def add_stated(journal: Journal, given: SimpleNamespace) -> None:
     """Adds what isn't in the journal: whose the image is, by the file next to it, and the time of day of lives."""
-    from ..evidence import identity
+    from ..journal import identity
     journal.identity, journal.utc = identity.of(journal.path), dict(given.utc)
     if len(journal.utc) < len(given.utc):
         raise Failed("--utc names a life twice", WRONG_WORDS)

@@ -1,5 +1,4 @@
 """The command `search`: searches random scenarios for one that breaks a property (docs/howto/searching.md)."""
-import io
 import json
 import secrets
 from collections.abc import Callable, Sequence
@@ -7,16 +6,15 @@ from pathlib import Path
 from types import SimpleNamespace
 from typing import Any
 
-from .. import files
+from ..cases import case_runner
 from ..escaping import shown
-from ..journal.reading import Json, Progress
+from ..journal.reading import Progress
 from ..journal.wording import MODES, counted
-from ..program import DEVICE, FOUND, REFUSED, WRONG_WORDS, Failed, naming
-from ..testing import case_runner, properties
-from ..testing.properties import Property, PropertyFile, Violated
-from ..units.other_unit import words_of
+from ..program import DEVICE, FOUND, REFUSED, WRONG_WORDS, Failed, Json, naming
+from ..search import properties
+from ..search.properties import Property, PropertyFile, Violated
+from ..units.other_unit import within_of, words_of
 from ..yaml_files import BadFile
-from . import unit_commands
 
 EXAMPLES, MOST_EXAMPLES, SEEDS = 200, 100_000, 1 << 32
 FEW_JUDGED = 100
@@ -155,7 +153,7 @@ def check(given: SimpleNamespace) -> None:
         raise Failed("--records can't be combined with --against or --keep", WRONG_WORDS)
     if given.keep and (given.keep.exists() or given.keep.is_symlink()):
         raise Failed(f"--keep {given.keep}: already exists; name a new folder. Nothing was run.", REFUSED)
-    unit_commands.within_of(given.answer_within)
+    within_of(given.answer_within)
     if given.against:
         words_of(given.against)
 
@@ -168,7 +166,7 @@ def search(given: SimpleNamespace, progress: Progress) -> int:
     if given.records:
         return FOUND if judge_records(wanted, records_of(given.records)) else 0
     try:
-        from ..testing import search as searching, strategies
+        from ..search import search as searching, strategies
     except ImportError as error:
         raise Failed("hypothesis is missing; tools/python --search installs it by Debian's packages", DEVICE) from error
     seed = secrets.randbelow(SEEDS) if given.seed is None else given.seed

@@ -16,14 +16,15 @@ from .journal_commands import note, out_of, write
 
 def write_scenario(given: SimpleNamespace, progress: Progress) -> None:
     """Runs `lab build`."""
-    from ..testing import scenarios
+    from ..simulation import scenarios
     out = out_of(given, given.yaml)
     write(out, scenarios.read(given.yaml).text(), given.yaml)
 
 
 def print_telegram(given: SimpleNamespace, progress: Progress) -> None:
     """Runs `lab telegram`."""
-    from ..testing import scenarios, telegrams
+    from ..simulation import scenarios
+    from ..telegrams import telegrams
     try:
         print(scenarios.encoded(given.text))
     except telegrams.Wrong as wrong:
@@ -32,7 +33,7 @@ def print_telegram(given: SimpleNamespace, progress: Progress) -> None:
 
 def write_case(given: SimpleNamespace, progress: Progress) -> int:
     """Runs `lab case`."""
-    from ..testing import case_files, journal_case
+    from ..cases import case_files, journal_case
     if given.out is not None and not case_files.is_case_file(given.out.name):
         raise Failed(f"{given.out}: the name has to end in .case.yaml", WRONG_WORDS)
     out = out_of(given, given.image)
@@ -46,7 +47,7 @@ WITHOUT_PYTHON = ("-c", os.devnull, "--noconftest", *(f"-pno:{name}" for name in
 """Options of pytest by which it runs no code of the folder, and doesn't watch what only such code could do, which takes a quarter of its time."""
 UNCAPTURED = "--capture=no"
 """The option of pytest by which it captures nothing: a case prints nothing, and it takes another quarter."""
-PLUGIN = ("-p", "no:gaknifur", "-p", "gaknifur.testing.pytest_plugin")
+PLUGIN = ("-p", "no:gaknifur", "-p", "gaknifur.cases.pytest_plugin")
 """Options of pytest that load the plugin once, also if it is installed and pytest would find it by itself."""
 WRITING = ("--log-file", "--basetemp", "--debug", "--pastebin")
 """Options of pytest that write files or send data."""
@@ -92,7 +93,7 @@ def run_tests(given: SimpleNamespace, progress: Progress) -> None:
     try:
         import pytest
 
-        from ..testing.junit import results_in_xml
+        from ..cases.junit import results_in_xml
     except ImportError as error:
         raise Failed("pytest is missing; tools/python installs it by Debian's packages", DEVICE) from error
     check_options(given.others)
@@ -127,7 +128,7 @@ def run_tests(given: SimpleNamespace, progress: Progress) -> None:
 
 def show_coverage(given: SimpleNamespace, progress: Progress) -> None:
     """Runs `lab coverage`."""
-    from ..testing import coverage
+    from ..cases import coverage
     found = coverage.matrix(given.folder)
     sys.stdout.write(coverage.text(found))
     sys.stdout.flush()

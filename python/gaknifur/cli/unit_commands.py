@@ -2,20 +2,12 @@
 import sys
 from types import SimpleNamespace
 
+from ..cases import oracle
 from ..journal.reading import Progress, read
-from ..program import NOT_WHOLE, REFUSED, WRONG_WORDS, Failed
-from ..units import oracle, own_unit
-from ..units.other_unit import words_of
+from ..program import NOT_WHOLE, REFUSED, Failed
+from ..units import own_unit
+from ..units.other_unit import within_of, words_of
 from ..units.protocol import line_of
-
-MOST_WITHIN_S = 3_600.0
-
-
-def within_of(seconds: float) -> float:
-    """The time limit for each answer of another unit."""
-    if not 0 < seconds <= MOST_WITHIN_S:
-        raise Failed(f"--answer-within: has to be more than 0 and at most {MOST_WITHIN_S:g} s", WRONG_WORDS)
-    return seconds
 
 
 def serve(given: SimpleNamespace, progress: Progress) -> None:

@@ -1,1 +1,1 @@
-"""Seals of images, and whose an image is."""
+"""Seals of images."""

@@ -22,11 +22,10 @@ import jsonschema
 
 from .. import files, program
 from ..escaping import shown
-from ..journal import verdict
-from ..journal.reading import Json, Progress, read, silent
+from ..journal import identity, verdict
+from ..journal.reading import Progress, read, silent
 from ..journal.verdict import Verdict
-from ..program import DEVICE, FOUND, REFUSED, Failed, tool
-from . import identity
+from ..program import DEVICE, FOUND, REFUSED, Failed, Json, tool
 
 IMAGE, SEAL, SUMS, SIGNATURE = "image", "seal.json", "SHA512SUMS", "SHA512SUMS.sig"
 IDENTITY = IMAGE + identity.ENDING

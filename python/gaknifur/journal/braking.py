@@ -6,7 +6,7 @@ from collections.abc import Iterable, Iterator
 from dataclasses import dataclass, field
 from itertools import accumulate, groupby
 
-from .reading import Json
+from ..program import Json
 from .wording import kmh
 
 Pair = tuple[int | None, int | None]

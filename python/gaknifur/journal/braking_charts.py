@@ -1,8 +1,8 @@
 """Draw what followed a brake command, as SVG for a page: the speed over way and time, with the curve that the train data promise."""
+from ..program import Json
 from .braking import BROKEN, PROMISES, Measured, promised_curve
 from .charts import END, SPEED, STYLE, svg_of
 from .matplotlib_defaults import Figure, FigureCanvasSVG, plain
-from .reading import Json
 
 MOST_DRAWN, MOST_DOTS = 6, 80
 

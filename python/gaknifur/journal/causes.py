@@ -10,8 +10,9 @@ import itertools
 from collections.abc import Iterable, Iterator
 from dataclasses import dataclass
 
+from ..program import Json
 from ._words import CAUSES, TRIP_CAUSES
-from .reading import Journal, Json
+from .reading import Journal
 
 TRIP_BEFORE = "it was tripped before the power-up, and why isn't known"
 LIMIT_CAUSE = "limit_cause"

@@ -14,9 +14,9 @@ import numpy as np
 import pandas as pd
 
 from .. import files, program
-from ..program import DEVICE, REFUSED, Failed
+from ..program import DEVICE, REFUSED, Failed, Json
 from . import _words, braking, causes, plausibility, tables, verdict
-from .reading import Journal, Json
+from .reading import Journal
 
 VERSION = 8
 """The `user_version` of the schema."""

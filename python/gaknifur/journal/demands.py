@@ -10,9 +10,10 @@ from operator import itemgetter
 
 from .. import guard
 from ..guard import Direction
-from ..simulation.driving import MODES
+from ..program import Json
+from ..units.protocol import MODES
 from .groups import Group, direction, links_of, packets_of
-from .reading import Journal, Json
+from .reading import Journal
 
 ROW = ("event", "life", "mode", "direction", "demanded", "finding", "packet", "section", "sureness")
 MODE_OF = {name: mode for mode, name in MODES.items()}

@@ -3,7 +3,7 @@ import itertools
 from collections.abc import Iterable, Sequence
 from dataclasses import dataclass
 
-from .reading import Json
+from ..program import Json
 from .wording import SCALES_CM
 
 Group = tuple[int, int]

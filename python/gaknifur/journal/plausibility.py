@@ -8,7 +8,7 @@ from dataclasses import asdict, dataclass, field
 from itertools import pairwise
 from typing import Any
 
-from .reading import Json
+from ..program import Json
 from .wording import counted, kmh
 
 CM_PER_M_PER_H_MS = 100 / 3_600_000

@@ -11,18 +11,18 @@ from dataclasses import dataclass, field
 from pathlib import Path
 from typing import TYPE_CHECKING, Any, Protocol, overload
 
+from .. import layout
 from ..escaping import shown
 from ..files import digest
-from ..program import DEVICE, NOT_WHOLE, REFUSED, WHOLE, Failed, Run
-from . import layout, sizes
+from ..program import DEVICE, NOT_WHOLE, REFUSED, WHOLE, Failed, Json, Run
+from . import sizes
 from .part import Changes, Part
 from .utc import Begun
 
 if TYPE_CHECKING:
-    from ..evidence.identity import Identity
+    from .identity import Identity
     from .verdict import Verdict
 
-Json = dict[str, Any]
 Progress = Callable[[str, int, int], None]
 """A callback for progress: what is being done, how much is done, and the total (0 if it isn't known)."""
 

@@ -10,11 +10,11 @@ import numpy as np
 import pandas as pd
 
 from .. import program
-from ..program import REFUSED, Failed
+from ..program import REFUSED, Failed, Json
 from . import braking, braking_charts, causes, charts, plausibility, summary, tables, utc, wording
 from .charts import Picture
 from .extent import Extent
-from .reading import Journal, Json, Progress, silent
+from .reading import Journal, Progress, silent
 
 MOST_ROWS, MOST_WINDOWS, MOST_LIVES, MOST_LISTED, AROUND, SHORT = 1500, 12, 12, 400, 25, 400
 MOST_STRAYS = 800

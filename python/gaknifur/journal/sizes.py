@@ -3,8 +3,8 @@ import os
 import stat
 from pathlib import Path
 
+from .. import layout
 from ..program import naming
-from . import layout
 
 
 def of_file(path: Path) -> tuple[int, int | None] | None:

@@ -6,8 +6,9 @@ from typing import Any
 
 import pandas as pd
 
+from ..program import Json
 from . import tables, unused_packets, verdict
-from .reading import Journal, Json
+from .reading import Journal
 
 MOST_TRIPS = 12
 LAST = ("event", "life", "mode", "level", "brake", "place_cm", "time_ms", "speed_kmh")

@@ -31,9 +31,10 @@ from typing import Any
 import numpy as np
 import pandas as pd
 
+from ..layout import SECTOR, SLOT_SECTORS
+from ..program import Json
 from . import causes, csv_cells, refused_actions, unused_packets, utc
-from .layout import SECTOR, SLOT_SECTORS
-from .reading import Journal, Json
+from .reading import Journal
 from .wording import INDICATIONS
 
 OF_ALL = ("block", "event", "life", "kind", "time_ms", "mode", "level", "brake", "indications", "place_cm",

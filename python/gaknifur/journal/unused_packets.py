@@ -7,8 +7,8 @@ from collections import Counter
 from collections.abc import Iterable
 from dataclasses import dataclass
 
-from ..testing import _track_packets
-from .reading import Json
+from ..program import Json
+from ..telegrams import _track_packets
 
 WHERE = {"not_known": "", "infill": " in infill", "refused": " in a telegram that is refused"}
 """The text about a packet for each reason why it isn't used."""

@@ -3,9 +3,9 @@
 """
 from dataclasses import dataclass, field
 
-from ..program import NOT_WHOLE, WHOLE
+from ..program import NOT_WHOLE, WHOLE, Json
 from . import causes, plausibility, sizes
-from .reading import Journal, Json
+from .reading import Journal
 
 OVERWRITTEN = "before_oldest_block"
 """Why a life whose beginning the ring has overwritten isn't replayed; this is no loss."""

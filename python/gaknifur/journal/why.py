@@ -2,9 +2,10 @@
 from collections.abc import Iterator, Mapping
 from dataclasses import dataclass, field
 
+from ..program import Json
 from . import braking
 from .causes import Known, known, rows_of
-from .reading import Journal, Json
+from .reading import Journal
 
 
 @dataclass

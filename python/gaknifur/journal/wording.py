@@ -2,8 +2,8 @@
 from decimal import Decimal
 from typing import Any
 
+from ..program import Json
 from . import unused_packets
-from .reading import Json
 
 MODES = {"FS": "Full Supervision", "OS": "On Sight", "SR": "Staff Responsible", "SH": "Shunting", "UN": "Unfitted",
          "SB": "Stand By", "TR": "Trip", "PT": "Post Trip", "SF": "System Failure"}

@@ -1,1 +1,1 @@
-"""Trains in a closed loop with an onboard unit, and campaigns of many runs."""
+"""Scenarios, and trains in a closed loop with an onboard unit."""

@@ -1,36 +1,13 @@
 """Run a drive with the onboard unit: the library that `tools/library` makes, on an image in memory."""
-import functools
-import re
 from pathlib import Path
 
 from .. import program
-from ..errors import say
 from ..journal.wording import SCALES_CM
-from ..program import DEVICE, REFUSED, Failed
-from ..testing import scenarios
-from ..unit import Cold, Medium, MemoryMedium, Refused, Unit, library
-from . import driving
+from ..program import REFUSED, Failed
+from ..unit import Cold, Medium, MemoryMedium, Refused, Unit
+from ..units.own_unit import check_library
+from . import driving, scenarios
 from .drives import Drive, slots_for
-
-
-UNPROVED = re.compile(rb"Gaknifur [^\0]{1,200}, unproved\0")
-"""The text in a library that tools/library --unproved made."""
-
-
-@functools.cache
-def check_library() -> None:
-    """Fails unless the unit's library exists and has the interface of this package. Says on standard error, once, if it is unproved."""
-    try:
-        found = library()
-    except OSError as error:
-        raise Failed(f"can't load the library of the onboard unit ({error}). Make it with `tools/library --unproved PREFIX` (two to three "
-                     "minutes, without proof) or `tools/library PREFIX`, and set GAKNIFUR_ETCS_UNIT=PREFIX/lib/libetcs_unit.so",
-                     DEVICE) from error
-    except (Refused, AttributeError) as error:
-        raise Failed(f"the library of the onboard unit has another interface: {error}", DEVICE) from error
-    file = Path(found._name)
-    if file.is_file() and UNPROVED.search(file.read_bytes()):
-        say(f"this run is unproved: {file} was compiled without proof")
 
 
 def over_image(data: bytes, scenario: scenarios.Scenario, drive: Drive) -> tuple[driving.Driven, bytes]:

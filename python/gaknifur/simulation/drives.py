@@ -9,8 +9,8 @@ from pathlib import Path
 from typing import Any
 
 from ..journal.wording import INDICATIONS, MODES
-from ..testing import scenarios
 from ..yaml_files import Value, document
+from . import scenarios
 
 HEEDS = ("limit", "nothing")
 STANDSTILL = "standstill"

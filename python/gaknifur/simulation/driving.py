@@ -9,12 +9,11 @@ from dataclasses import dataclass, field
 from typing import Any, Protocol
 
 from ..etcs_run import Released
-from ..testing.scenarios import ACKNOWLEDGED, LONGEST_CM, Scenario
 from ..unit import OUTPUTS, Action, Brake, Indication, Level, Mode, Output, TrainData
+from ..units.protocol import MODES
 from .drives import Act, Drive, Driver, Train, When
+from .scenarios import ACKNOWLEDGED, LONGEST_CM, Scenario
 
-MODES = {Mode.FULL_SUPERVISION: "FS", Mode.ON_SIGHT: "OS", Mode.STAFF_RESPONSIBLE: "SR", Mode.SHUNTING: "SH",
-         Mode.UNFITTED: "UN", Mode.STAND_BY: "SB", Mode.TRIP: "TR", Mode.POST_TRIP: "PT", Mode.SYSTEM_FAILURE: "SF"}
 BEFORE = Output(0, Mode.STAND_BY, Level.INVALID, Brake.EMERGENCY, 0, Indication.NOT_REVALIDATED)
 """The output until the first one is released: that of the power-up never is."""
 BRAKES = {brake: brake.name.lower() for brake in Brake}

@@ -1,1 +1,1 @@
-"""The C declarations, and the protocol by which other units are asked (docs/howto/oracle.md)."""
+"""The protocol by which units are asked (docs/howto/oracle.md): other units, and the proved one."""

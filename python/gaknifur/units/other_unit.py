@@ -13,13 +13,12 @@ import subprocess
 import time
 from typing import Self
 
-from ..journal.reading import Json
-from ..program import DEVICE, WRONG_WORDS, Failed
+from ..program import DEVICE, WRONG_WORDS, Failed, Json
 from .protocol import MOST_LINE, PROTOCOL, TOO_LONG, Greeting, Wrong, checked, greeting_of, line_of, short
 from .sandbox import Confined
 
-WITHIN_S = 10.0
-"""The default time limit of a unit for an answer."""
+WITHIN_S, MOST_WITHIN_S = 10.0, 3_600.0
+"""The default and the longest time limit of a unit for an answer, in seconds."""
 MOST_ERRORS, MOST_READS, LOOK_S = 4_096, 64, 0.001
 """The bytes of standard error that are kept, the most reads of a stream that has ended or is given up, and the interval at which
 the end of a process is checked."""
@@ -31,6 +30,13 @@ class Broken(Exception):
     def __init__(self, message: str, answers: int) -> None:
         super().__init__(message)
         self.answers = answers
+
+
+def within_of(seconds: float) -> float:
+    """The time limit for each answer of another unit."""
+    if not 0 < seconds <= MOST_WITHIN_S:
+        raise Failed(f"--answer-within: has to be more than 0 and at most {MOST_WITHIN_S:g} s", WRONG_WORDS)
+    return seconds
 
 
 def words_of(command: str) -> list[str]:

@@ -3,19 +3,39 @@
 Each event is flushed by itself, so that each has its answer at once. The output of a power-up is never released; it is read from
 its record.
 """
+import functools
 import os
+import re
 import sys
+from pathlib import Path
 from typing import BinaryIO
 
 from .. import unit
-from ..journal.reading import Json
-from ..program import DEVICE, REFUSED, Failed
-from ..simulation import closed_loop
-from ..simulation.driving import MODES
-from ..unit import Action, Brake, Cold, Indication, Level, MemoryMedium, TrainData, Unit
+from ..errors import say
+from ..program import DEVICE, REFUSED, Failed, Json
+from ..unit import Action, Brake, Cold, Indication, Level, MemoryMedium, Refused, TrainData, Unit, library
 from . import protocol
+from .protocol import MODES
 
 SLOTS = 64
+UNPROVED = re.compile(rb"Gaknifur [^\0]{1,200}, unproved\0")
+"""The text in a library that tools/library --unproved made."""
+
+
+@functools.cache
+def check_library() -> None:
+    """Fails unless the unit's library exists and has the interface of this package. Says on standard error, once, if it is unproved."""
+    try:
+        found = library()
+    except OSError as error:
+        raise Failed(f"can't load the library of the onboard unit ({error}). Make it with `tools/library --unproved PREFIX` (two to three "
+                     "minutes, without proof) or `tools/library PREFIX`, and set GAKNIFUR_ETCS_UNIT=PREFIX/lib/libetcs_unit.so",
+                     DEVICE) from error
+    except (Refused, AttributeError) as error:
+        raise Failed(f"the library of the onboard unit has another interface: {error}", DEVICE) from error
+    file = Path(found._name)
+    if file.is_file() and UNPROVED.search(file.read_bytes()):
+        say(f"this run is unproved: {file} was compiled without proof")
 
 
 def action_of(event: Json) -> Action:
@@ -41,7 +61,7 @@ class OwnUnit:
     """The proved unit. It had no power before the first power-up; each later power-up is after a loss of power."""
 
     def __init__(self) -> None:
-        closed_loop.check_library()
+        check_library()
         self.medium = MemoryMedium.formatted(SLOTS)
         self.unit: Unit | None = None
 
@@ -83,7 +103,7 @@ class OwnUnit:
             one.action(action_of(event))
 
     def answer(self, event: Json) -> Json:
-        """The answer to an event. `unit.Refused` if the unit doesn't accept it."""
+        """The answer to an event. `Refused` if the unit doesn't accept it."""
         if event["kind"] == "powerup":
             return self.power_up(event["word"])
         if self.unit is None:
@@ -114,7 +134,7 @@ def serve(into: BinaryIO, out: BinaryIO) -> None:
         for number, line in enumerate(iter(lambda: into.readline(protocol.MOST_LINE + 1), b"")):
             try:
                 answer = answered(own, line, number == 0)
-            except (protocol.Wrong, unit.Refused, KeyError, ValueError) as error:
+            except (protocol.Wrong, Refused, KeyError, ValueError) as error:
                 reason = f"{error} is missing or unknown" if isinstance(error, KeyError) else str(error)
                 raise Failed(f"serve: line {number + 1}: {reason}", REFUSED) from error
             out.write(protocol.line_of(answer).encode())

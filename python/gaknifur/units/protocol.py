@@ -7,8 +7,8 @@ import json
 from collections.abc import Callable
 from dataclasses import dataclass
 
-from ..journal.reading import Json
-from ..journal.wording import INDICATIONS, MODES
+from .._header import Indication, Mode
+from ..program import Json
 
 PROTOCOL = 2
 """The version. In version 1 `members` of the greeting had another name."""
@@ -25,9 +25,10 @@ DONE = {"enter_identity": ("identity",), "enter_running_number": ("running_numbe
 """The members of each kind of event, and of each action of the driver."""
 TEXTS = ("kind", "word", "telegram", "action", "identity", "confirmed", "acknowledged")
 """The members of an event that are texts. All others are whole numbers."""
+MODES = {Mode.FULL_SUPERVISION: "FS", Mode.ON_SIGHT: "OS", Mode.STAFF_RESPONSIBLE: "SR", Mode.SHUNTING: "SH",
+         Mode.UNFITTED: "UN", Mode.STAND_BY: "SB", Mode.TRIP: "TR", Mode.POST_TRIP: "PT", Mode.SYSTEM_FAILURE: "SF"}
+INDICATIONS = [one.name.lower() for one in Indication if one.name]
 MOST_LINE, MOST_NAME, MOST_SHOWN = 65_536, 200, 120
-
-
 TOO_LONG = f"a line of more than {MOST_LINE:,} bytes"
 
 
@@ -80,7 +81,7 @@ def are_indications(value: object) -> bool:
 
 
 VALUES: dict[str, tuple[Callable[[object], bool], str]] = {
-    "mode": (lambda value: isinstance(value, str) and value in MODES, f"one of {', '.join(MODES)}"),
+    "mode": (lambda value: isinstance(value, str) and value in MODES.values(), f"one of {', '.join(MODES.values())}"),
     "level": (lambda value: value is None or type(value) is int and value in (0, 1), "0, 1 or null"),
     "brake": (lambda value: isinstance(value, str) and value in ("none", "service", "emergency"),
               "none, service or emergency"),

@@ -6,7 +6,7 @@ import re
 from dataclasses import dataclass, field
 from pathlib import Path
 
-from gaknifur.testing import coverage
+from gaknifur.cases import coverage
 from tracing.sources import Place
 
 NAME = re.compile(r"`([^`]+)`")

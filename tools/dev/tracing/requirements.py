@@ -8,7 +8,7 @@ from dataclasses import dataclass, field
 from functools import partial
 from pathlib import Path
 
-from gaknifur.testing import coverage
+from gaknifur.cases import coverage
 from gaknifur.yaml_files import document
 from tracing import pages
 from tracing.sources import ROWS, Place

@@ -7,7 +7,7 @@ import re
 from dataclasses import dataclass, field
 from pathlib import Path
 
-from gaknifur.testing import cases, coverage
+from gaknifur.cases import cases, coverage
 from gaknifur.yaml_files import documents
 
 TOP = Path(__file__).resolve().parents[3]

@@ -9,15 +9,13 @@ from pathlib import Path
 
 from .. import etcs_run, program
 from ..etcs_run import CARRIED_OUT, Released
-from ..journal.reading import Json, read
-from ..program import Failed
+from ..journal.reading import read
+from ..program import Failed, Json
 from ..simulation import closed_loop
 from ..simulation.driving import Driven
 from .cases import DRIVEN, WITHIN, Case, Condition, Expected, Life, Row, derived, with_train
 from .mode_table import Table
-from .soundness import Missed as Missed
-from .soundness import check_image as check_image
-from .soundness import check_released as check_released
+from .soundness import Missed as Missed, check_image as check_image, check_released as check_released
 
 Keep = Callable[[bytes], None]
 """Receives the image of a case."""

@@ -17,10 +17,9 @@ from typing import Any
 import pytest
 
 from .. import processes, program
-from ..cli import unit_commands
 from ..program import Failed
-from ..units import oracle, other_unit
-from . import case_files, case_runner, cases, mode_table
+from ..units import other_unit
+from . import case_files, case_runner, cases, mode_table, oracle
 
 AGREES = "another unit answers each event like the proved one"
 FIRST = "each life ends as expected; the image is whole, and its records are the released outputs"
@@ -41,7 +40,7 @@ def pytest_addoption(parser: pytest.Parser) -> None:
 def pytest_configure(config: pytest.Config) -> None:
     """Checks the options. The folder for failed cases must be new, so that nothing is overwritten."""
     try:
-        unit_commands.within_of(config.getoption("--answer-within"))
+        other_unit.within_of(config.getoption("--answer-within"))
         other_unit.words_of(config.getoption("--against") or "none")
     except Failed as failed:
         raise pytest.UsageError(str(failed)) from None

@@ -8,11 +8,11 @@ from collections.abc import Iterator
 from dataclasses import dataclass
 from pathlib import Path
 
-from ..journal.reading import Json
+from ..cases.case_runner import Missed, Played, check, is_met
+from ..cases.cases import CONDITION, WITHIN, Condition, Test, sections_of, test_of
+from ..program import Json
+from ..simulation import scenarios
 from ..yaml_files import Value, document, documents
-from . import scenarios
-from .case_runner import Missed, Played, check, is_met
-from .cases import CONDITION, WITHIN, Condition, Test, sections_of, test_of
 
 MORE = ("over_limit_m_per_h", "rolled_back_cm", "packet")
 """Names that only conditions that select records, or the records before them, may use."""

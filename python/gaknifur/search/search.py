@@ -16,16 +16,16 @@ import hypothesis
 from hypothesis import HealthCheck, Phase, settings
 
 from .. import processes, program
+from ..cases import case_runner, oracle
+from ..cases.scenario_text import life_lines, telegram_lines, text_of
+from ..cases.yaml_text import flow, quoted
 from ..etcs_run import CARRIED_OUT
-from ..journal.reading import Json, records_of
+from ..journal.reading import records_of
 from ..playing import AHEAD, ended, lives_of, play_images
-from ..program import REFUSED, Failed
-from ..units import oracle
-from . import case_runner, properties
+from ..program import REFUSED, Failed, Json
+from . import properties
 from .properties import Property, Violated
-from .scenario_text import life_lines, telegram_lines, text_of
 from .strategies import Made, lives
-from .yaml_text import flow, quoted
 
 Lives = tuple[str, ...]
 SLOTS, TOGETHER = 128, 25

@@ -6,12 +6,12 @@ import tempfile
 from collections.abc import Sequence
 from pathlib import Path
 
-from ..journal.reading import Journal, Json
-from ..program import REFUSED, Failed
+from ..journal.reading import Journal
+from ..program import REFUSED, Failed, Json
+from ..simulation.scenarios import ACKNOWLEDGED, COLD, CONFIRMED
 from . import cases
 from .case_runner import Played, comes, play
 from .scenario_text import life_lines
-from .scenarios import ACKNOWLEDGED, COLD, CONFIRMED
 from .soundness import Missed
 from .yaml_text import quoted
 

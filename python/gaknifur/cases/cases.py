@@ -13,9 +13,8 @@ from typing import Any
 
 from ..journal.wording import INDICATIONS, MODES
 from ..program import REFUSED, AllFailed, Failed
-from ..simulation import drives
+from ..simulation import drives, scenarios
 from ..yaml_files import Value, documents, shortened
-from . import scenarios
 from .mode_table import mode_table, row_name
 
 KINDS = ("powerup", "telegram", "odometer", "clock", "driver")

@@ -11,13 +11,13 @@ from dataclasses import dataclass
 from pathlib import Path
 
 from .. import etcs_run, program
-from ..journal.reading import Json, parsed_all, read
-from ..program import Run
+from ..cases import cases
+from ..journal.reading import parsed_all, read
+from ..program import Json, Run
 from ..simulation import closed_loop, drives
 from ..simulation.drives import Drive
+from ..simulation.scenarios import LONGEST_CM, Scenario
 from ..yaml_files import Value
-from . import cases
-from .scenarios import LONGEST_CM, Scenario
 
 MOST_SLOTS = 1_048_576
 DRIVE = "/drive"

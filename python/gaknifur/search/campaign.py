@@ -16,9 +16,9 @@ from pathlib import Path
 from typing import Any
 
 from .. import processes
+from ..cases import case_files
 from ..escaping import shown
 from ..program import DEVICE, Failed
-from ..testing import case_files
 
 Row = dict[str, Any]
 Take = Callable[[list[Row]], None]

@@ -10,10 +10,11 @@ from typing import Any
 
 from hypothesis import strategies as st
 
+from ..cases.scenario_text import text_of
+from ..simulation import scenarios
+from ..simulation.scenarios import ACKNOWLEDGED, CONFIRMED, WITHOUT_VALUE, Shared
+from ..telegrams import telegrams
 from ..yaml_files import Value
-from . import scenarios, telegrams
-from .scenario_text import text_of
-from .scenarios import ACKNOWLEDGED, WITHOUT_VALUE, CONFIRMED, Shared
 
 Step = dict[str, Any]
 TRACK = "21: D_GRADIENT 0, Q_GDIR 1, G_A 0; 27: D_STATIC 0, V_STATIC 24, Q_FRONT 1"

@@ -11,13 +11,12 @@ from itertools import pairwise
 from .. import guard, unit
 from ..journal import unused_packets
 from ..journal.groups import Link, Packet, links_of, name_of
-from ..journal.reading import Json
 from ..journal.wording import kmh
+from ..program import Json
 from ..simulation.drives import Drive
+from ..telegrams.telegrams import WIDTH, packets_in
 from .course import DRIVE, Event
-from .telegrams import WIDTH, packets_in
-from .track_messages import (NATIONAL_SPEED, NEAR_CM, NONE, ONBOARD, ON_SIGHT, SHUNTING, TRIP, Known, Message, Placed, Walked, rounded_up,
-                             speed_of)
+from .track_messages import NATIONAL_SPEED, NEAR_CM, NONE, ONBOARD, ON_SIGHT, SHUNTING, TRIP, Known, Message, Placed, Walked, rounded_up, speed_of
 
 RESTRICTING = (3, 12, 27, 41, 65, 80)
 """Packets that may restrict: if one is lost, something is allowed that it would have forbidden."""

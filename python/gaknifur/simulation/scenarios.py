@@ -12,8 +12,8 @@ from pathlib import Path
 from typing import Any
 
 from .. import program
+from ..telegrams import telegrams
 from ..yaml_files import MOST_DIGITS, MOST_SHOWN, Value, document, guess, shortened
-from . import telegrams
 
 COLD = {"unknown": 0, "moved": 1, "not_moved": 2}
 CONFIRMED = {"identity": 1, "running_number": 2, "train_data": 3, "level": 4}

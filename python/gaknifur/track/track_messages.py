@@ -7,7 +7,7 @@ from collections.abc import Iterable, Iterator, Sequence
 from dataclasses import dataclass, field, replace
 
 from ..journal.groups import Group, Link, Packet, links_of, name_of, packets_in_order
-from ..journal.reading import Json
+from ..program import Json
 from .course import Event, Played
 
 NEAR_CM, NOW = 1_300, 32_767

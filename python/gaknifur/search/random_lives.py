@@ -8,7 +8,7 @@ import random
 from collections.abc import Iterator, Sequence
 from typing import Any, TypeVar
 
-from ..testing import telegrams
+from ..telegrams import telegrams
 
 MOST_STEPS, MOST_GROUPS, GROUPS_WITHIN_CM = 60, 4, 400_000
 ENTRIES = ([4, 1], [3, 20_000, 160_000, 70, 1_000, 15], [2, 704])

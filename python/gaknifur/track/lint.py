@@ -7,15 +7,17 @@ from dataclasses import dataclass, replace
 from pathlib import Path
 from types import SimpleNamespace
 
+from ..cases import case_files, cases
+from ..cases.scenario_faults import faults
 from ..errors import say
 from ..escaping import shown
-from ..journal.reading import Json, Progress
-from ..program import DEVICE, FOUND, REFUSED, Failed
-from ..simulation import closed_loop, drives
+from ..journal.reading import Progress
+from ..program import DEVICE, FOUND, REFUSED, Failed, Json
+from ..simulation import drives
+from ..units import own_unit
 from ..yaml_files import Value, document, nodes_of, text_of
-from . import case_files, cases, track_checks
+from . import track_checks
 from .course import DRIVE, Life, of_case, played
-from .scenario_faults import faults
 from .track_checks import Finding, Judged
 from .track_messages import walk
 
@@ -118,7 +120,7 @@ def lines_of(subject: Subject) -> Iterator[Line]:
 def has_library() -> bool:
     """Whether the unit's library, which closed loops and the guard need, is available; says so once if it isn't."""
     try:
-        closed_loop.check_library()
+        own_unit.check_library()
     except Failed as failed:
         say(f"{failed}; telegrams that the unit skips or refuses are not judged, and of drives in a closed loop only the steps before them are")
         return False

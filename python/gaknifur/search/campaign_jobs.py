@@ -10,15 +10,15 @@ from pathlib import Path
 from typing import TYPE_CHECKING
 
 from .. import etcs_run, program
+from ..cases import soundness
 from ..etcs_run import CARRIED_OUT
-from ..journal.reading import Json, read
-from ..program import DEVICE, Failed
-from ..testing import soundness
+from ..journal.reading import read
+from ..program import DEVICE, Failed, Json
 from .campaign import Job, Row, row_without
 
 if TYPE_CHECKING:
-    from ..testing.case_runner import Played
-    from ..testing.cases import Case
+    from ..cases.case_runner import Played
+    from ..cases.cases import Case
 
 LAST = ("mode", "brake", "limit_m_per_h", "place_cm")
 """The columns with values of the last event."""
@@ -72,7 +72,7 @@ def starts(values: Sequence[str], value: str) -> int:
 
 def play_case(job: Job, folder: Path) -> Row:
     """Runs the cases of a file, and judges their expected results."""
-    from ..testing import case_runner, cases
+    from ..cases import case_runner, cases
     for name, data in job.content:
         path = folder / name
         path.parent.mkdir(parents=True, exist_ok=True)
@@ -92,7 +92,7 @@ def play_case(job: Job, folder: Path) -> Row:
 
 def missed_by(case: "Case", played: "Played") -> Iterator[str]:
     """A message for each expected result of a case that didn't come."""
-    from ..testing import case_runner, mode_table
+    from ..cases import case_runner, mode_table
     for expected in case.expected:
         try:
             case_runner.judge(expected, played, mode_table.mode_table())

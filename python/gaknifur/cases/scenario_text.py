@@ -3,8 +3,8 @@ import json
 from collections.abc import Iterable
 from typing import Any
 
-from ..journal.reading import Json
-from .scenarios import ACKNOWLEDGED, COLD, CONFIRMED, WITHOUT_VALUE
+from ..program import Json
+from ..simulation.scenarios import ACKNOWLEDGED, COLD, CONFIRMED, WITHOUT_VALUE
 from .yaml_text import quoted
 
 Texts = dict[str, tuple[str, str]]

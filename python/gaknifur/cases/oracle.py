@@ -9,11 +9,10 @@ from collections.abc import Iterator
 from dataclasses import dataclass, field
 
 from ..escaping import shown
-from ..journal.reading import Json
-from ..program import REFUSED, Failed
-from ..testing.cases import DRIVEN, derived, with_train
-from .other_unit import Broken, OtherUnit
-from .protocol import ANSWER, Greeting, answer_of, event_of
+from ..program import REFUSED, Failed, Json
+from ..units.other_unit import Broken, OtherUnit
+from ..units.protocol import ANSWER, Greeting, answer_of, event_of
+from .cases import DRIVEN, derived, with_train
 
 PLACE = ("place_cm", "uncertainty_cm")
 FOLLOWS = {"limit_kmh": ("limit_m_per_h",), "place_m": ("place_cm",), "min_safe_front_cm": PLACE,

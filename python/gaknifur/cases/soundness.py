@@ -3,7 +3,8 @@ from collections.abc import Iterable, Sequence
 from typing import Any
 
 from ..etcs_run import Released, output_of
-from ..journal.reading import Journal, Json
+from ..journal.reading import Journal
+from ..program import Json
 
 
 class Missed(Exception):

@@ -1,0 +1,1 @@
+"""Many runs: campaigns, random lives, and searches for a scenario that breaks a property."""

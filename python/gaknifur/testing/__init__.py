@@ -1,1 +1,0 @@
-"""Scenarios, test cases, coverage, searches, checks of tracks, and the pytest plugin."""

@@ -1,0 +1,1 @@
+"""Checks of tracks and of the steps on them."""

@@ -80,7 +80,7 @@ inside() { (cd "$room/work" && env -i "HOME=$room/work" "PATH=$root/usr/bin:/usr
 inside sh -c 'command -v rt' && fails "the kit is on the path"
 site=$root/usr/share/doc/gaknifur/html
 for one in "$site"/{index,search,docs/python,c/index,docs/howto/c-loop,out/docs/tables,out/docs/commands}.html "$root"/usr/share/man/man1/{etcs,etcs_lab,lab}.1.gz \
-    "$root"/usr/share/{zsh/vendor-completions/_lab,fish/vendor_completions.d/lab.fish,gaknifur/bindings/rust/etcs-unit-sys/src/declared.rs}; do
+    "$root"/usr/share/{zsh/vendor-completions/_lab,fish/vendor_completions.d/lab.fish,gaknifur/c/rust/etcs-unit-sys/src/declared.rs}; do
     [ -s "$one" ] || fails "there is no $one"
 done
 ! grep -rlE --include='*.html' --include='*.css' --include='*.js' 'src="(https?:)?//|<link [^>]*href="(https?:)?//|@import url\((/|http)|"/javascript/' "$site" || fails "these pages ask for files of other places"
@@ -94,7 +94,7 @@ ends 0 "etcs journal" "block 2 event 8 odometer FS 1 emergency 64 0000271000003a
 ends 0 "etcs_lab check" "the image is whole, and the kernel agrees with each event that is replayed" inside etcs_lab check image
 ends 0 "lab report" "" inside lab report image report.html
 grep -q 'generator" content="gaknifur lab"' "$room/work/report.html" || fails "lab report makes no report"
-ends 0 "lab test" " passed" inside lab test "$root/usr/share/gaknifur/suites" -k trip
+ends 0 "lab test" " passed" inside lab test "$root/usr/share/gaknifur/examples/suites" -k trip
 ends 0 "import gaknifur" "agrees" inside "$python" -c 'import gaknifur; print(*{one.verdict.name.lower() for one in gaknifur.replay("image")})'
 ends 2 "etcs --prove" "its repository proves" inside etcs --prove
 completed='. "$1"; COMP_WORDS=(etcs_lab ""); COMP_CWORD=1; $(complete -p etcs_lab | sed "s/.*-F \([^ ]*\).*/\1/") etcs_lab; echo "${COMPREPLY[@]}"'

@@ -4,7 +4,7 @@ from pathlib import Path
 from typing import TYPE_CHECKING, Any
 
 from . import verdict
-from .reading import Journal
+from .reading import Journal, Records
 from .wording import LEFT_OUT
 
 if TYPE_CHECKING:
@@ -24,7 +24,9 @@ def of(journal: Journal) -> Journal:
     """The journal without these; a running number is missing. Its verdict is that of the journal with them."""
     examination = without(journal.examination)
     examination["image"]["sha256"] = LEFT_OUT
-    records = [without(one) | {"running_number": None} if any(one.get(name) is not None for name in ENTRIES) else one for one in journal.records]
+    records = Records()
+    for one in journal.records:
+        records.append(without(one) | {"running_number": None} if any(one.get(name) is not None for name in ENTRIES) else one)
     return replace(journal, path=Path(LEFT_OUT), examination=examination, records=records, replay=without(journal.replay), strays=[], identity=None,
                    verdict=verdict.of(journal))
 

@@ -254,15 +254,15 @@ EVIDENCE = [
             Argument("folder", "FOLDER", "a folder that `lab seal` made"),
             option("--signers", "allowed OpenSSH signers (see ssh-keygen(1)); one of them must have signed", "FILE", PATH))]
 TESTING = [
-    Command("build", "cli.testing_commands:write_scenario", "Compile a YAML scenario to the JSON that `etcs run` reads",
+    Command("build", "cli.case_commands:write_scenario", "Compile a YAML scenario to the JSON that `etcs run` reads",
             "Errors name the file, line and column.", "build drive.yaml drive.json",
             Argument("yaml", "FILE.yaml", "a scenario"), Argument("out", "[OUT.json]", "output file (default: standard output)", required=False), FORCE),
-    Command("case", "cli.testing_commands:write_case", "Make a test case of a journal's lives up to an event",
+    Command("case", "cli.case_commands:write_case", "Make a test case of a journal's lives up to an event",
             "The expected result is the unit's answer at the event. The case is played before it is written: each record of the event's life has to be as in the journal. Status 1: the "
             "life can't be played again, and nothing was written.", "case image --event 8 braked.case.yaml",
             IMAGE, Argument("out", "[OUT.case.yaml]", "output file (default: standard output)", required=False),
             option("--event", "the last event of the case", "N", NATURAL, required=True), FORCE),
-    Command("test", "cli.testing_commands:run_tests", "Run the test cases of a folder and check their expected results",
+    Command("test", "cli.case_commands:run_tests", "Run the test cases of a folder and check their expected results",
             "Other options go to pytest, such as -k, -x and --lf. Status 4: a test failed.", "test suites --section 3.13",
             Argument("words", "FOLDER", "a folder or a file with test cases", nargs=-1, type=click.UNPROCESSED, callback=folder_and_others, expose_value=False),
             option("--section", "only results about this section of SUBSET-026 or its subsections", "SECTION", multiple=True),
@@ -273,7 +273,7 @@ TESTING = [
             FORCE, option("--keep", "keep the image and report of each failed case in this new folder", "FOLDER"),
             option("--against", "also run another unit: a command that speaks the protocol of docs/howto/oracle.md. Its answers are checked and compared",
                    "COMMAND"), WITHIN, context_settings={"ignore_unknown_options": True}),
-    Command("coverage", "cli.testing_commands:show_coverage", "List the sections and transitions that the cases of a folder cover",
+    Command("coverage", "cli.case_commands:show_coverage", "List the sections and transitions that the cases of a folder cover",
             "Status 4: a section or transition of the product has neither a case nor a reason why not.", "coverage suites",
             Argument("folder", "FOLDER", "a folder or a file with test cases")),
     Command("lint", "track.lint:lint", "List faults and weak points of scenarios and test cases",
@@ -317,7 +317,7 @@ UNITS = [
     Command("against", "cli.unit_commands:against", "Replay a journal against another unit and compare the answers",
             "Status 4: an answer differs, or the unit broke the protocol.", 'against image "./my_unit --oracle"',
             IMAGE, Argument("command", "COMMAND", "a command with its arguments that speaks the protocol of docs/howto/oracle.md", type=str), JSON_LINES, WITHIN)]
-TELEGRAM = Command("telegram", "cli.testing_commands:print_telegram", "Print the bytes of a telegram that is given by its variables",
+TELEGRAM = Command("telegram", "cli.case_commands:print_telegram", "Print the bytes of a telegram that is given by its variables",
                    "The text is that of a scenario (docs/reference/test-cases.md). `etcs decode` has to find the same variables in the bytes.",
                    'telegram "NID_BG 2; 66: NID_TSR 8"', Argument("text", "TEXT", "the variables of the telegram", type=str))
 EPILOG = """\
